@@ -1,0 +1,2 @@
+// Sources with bays left out.
+pub mod without;

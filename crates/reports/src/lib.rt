@@ -1,0 +1,4 @@
+// Reports as text.
+pub mod account;
+pub mod files;
+pub mod lines;

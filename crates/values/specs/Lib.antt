@@ -1,0 +1,4 @@
+pub mod Kinds
+pub mod Patterns
+pub mod Owed
+pub mod Words
