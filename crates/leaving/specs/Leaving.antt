@@ -35,10 +35,11 @@ BaysUpTo bays n = (entry : ℕ) → entry < n → getD bays entry 0 ≤ 63
 
 -- refusal 6 at the first entry that is no bay
 pub record NoBayIn (bays : List ℕ) (e : NoBay) : Type 0 where
-  pub within : e .entry < length bays
-  pub above : 63 < getD bays (e .entry) 0
-  pub first : BaysUpTo bays (e .entry)
-  pub told : no-bay e ≡ refusal 6 (e .entry) layer.List
+  pub place : ℕ
+  pub within : place < length bays
+  pub above : 63 < getD bays place 0
+  pub first : BaysUpTo bays place
+  pub told : no-bay e ≡ refusal 6 place layer.List
 
 -- the mask has exactly the listed bays
 abbrev pub MaskOf : List ℕ → ℕ → Type 0

@@ -40,7 +40,7 @@ pub impl<'a, S: Source> Source for Without<'a, S> as WithoutSource {
         let mut count = 0;
         for _seen in 0..self.below.len() {
             if let Some(step) = self.below.next(position) {
-                if !has_bit(self.mask, u32::from(step.operation.row().bay)) {
+                if self.shows(&step.operation) {
                     count += 1;
                 }
                 position = step.next;
@@ -54,7 +54,7 @@ pub impl<'a, S: Source> Source for Without<'a, S> as WithoutSource {
         let mut passed = 0;
         for _seen in 0..self.below.len() {
             if let Some(step) = self.below.next(position) {
-                if !has_bit(self.mask, u32::from(step.operation.row().bay)) {
+                if self.shows(&step.operation) {
                     if passed == place {
                         return Ok(step.operation);
                     }
@@ -69,12 +69,21 @@ pub impl<'a, S: Source> Source for Without<'a, S> as WithoutSource {
     fn next(&self, position: usize) -> Option<Step<S::Value>> {
         let mut from = position;
         while let Some(step) = self.below.next(from) {
-            if !has_bit(self.mask, u32::from(step.operation.row().bay)) {
+            if self.shows(&step.operation) {
                 return Some(step);
             }
             from = step.next;
         }
         None
+    }
+}
+
+impl<'a, S: Source> Without<'a, S> {
+    // Whether the operation is still shown.
+    fn shows(&self, operation: &Operation<S::Value>) -> bool
+        ensures { λ r. ⌜ r ≡ keeps (now (self .entry) .mask) (now (operation .entry) .row) ⌝ }
+    {
+        !self.leaves_out(u32::from(operation.row().bay))
     }
 }
 

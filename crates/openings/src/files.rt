@@ -8,6 +8,15 @@ pub const WRITE: [u32; 3] = [0x8300_0001, 1, 0xc000_0002];
 // A read of the same.
 pub const READ: [u32; 3] = [0x4300_0001, 3, 0xc000_0004];
 
+// A first word of a record whose pattern is no stamp.
+pub const NO_STAMP: u32 = 0x8300_0000;
+
+// A start word with the last tick, so that a record with it starts after any other finish.
+pub const LATE: u32 = 0x3fff_ffff;
+
+// A word of kind 1, which only a record's first word may have.
+pub const KIND_1: u32 = 0x4000_0000;
+
 // A file of words.
 #[derive(Drop)]
 pub struct File {
@@ -53,7 +62,7 @@ impl File {
         Ok(())
     }
 
-    // The same file with another word at a place; a place past the end is left.
+    // The same file with another word at a place; a place past the end, or past any file that is tried, is left.
     pub fn with(mut self, place: usize, word: u32) -> File {
         let high = word.to_be_bytes();
         if place < 10_000 && 4 * place + 4 <= self.bytes.len() {
@@ -62,6 +71,12 @@ impl File {
             self.bytes[4 * place + 2] = high[2];
             self.bytes[4 * place + 3] = high[3];
         }
+        self
+    }
+
+    // The same file, no longer than so many bytes.
+    pub fn cut(mut self, length: usize) -> File {
+        self.bytes.truncate(length);
         self
     }
 }

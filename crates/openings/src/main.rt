@@ -1,4 +1,5 @@
-// Opens tables and lists of every sort and compares each account with what it should be.
+// Opens tables and lists of every sort and compares each answer with what it should be.
+mod bays;
 mod cases;
 mod files;
 mod trials;
@@ -13,6 +14,9 @@ fn main(rt: LibcRuntime) -> io::Result<()> {
     trials.two_at_once()?;
     trials.stamps()?;
     trials.lists()?;
+    trials.refused_lists()?;
+    trials.list_lengths()?;
+    trials.places()?;
     let right = trials.right;
     let wrong = trials.wrong;
     let first = trials.first_wrong;

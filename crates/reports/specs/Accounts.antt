@@ -7,6 +7,7 @@ use Prim.Native.Nat.{ℕ, zero, suc, _+_}
 use denote.Ref.{RefT}
 use lib.Chars.{codes}
 use lib.ListN.{length}
+use Rattle.std.specs.Of.String.{string-bytes}
 use Rattle.std.specs.Written.{decimal}
 use Rattle.std.specs.declared.option.Option.{Option}
 use Rattle.std.specs.declared.option.Option.the-variants.{Some, None}
@@ -19,6 +20,8 @@ use Rattle.operations.specs.declared.refusal.NoBay.{NoBay}
 use Rattle.operations.specs.declared.refusal.Refusal.{Refusal}
 use Rattle.operations.specs.declared.room.Room.{Room}
 use Rattle.operations.specs.declared.row.Row.{Row}
+use Rattle.reports.specs.declared.opening.Opening.{Opening}
+use Rattle.reports.specs.declared.opening.Opening.the-variants.{Said, Opened}
 use Rattle.tables.specs.Lists.{Lists, list-checks}
 use Rattle.tables.specs.Records.{Shows, table-checks}
 
@@ -74,9 +77,14 @@ abbrev pub Listed : Option (List ℕ) → List ℕ → Type 0
 Listed None bays = bays ≡ []
 Listed (Some bytes) bays = (first-failed (list-checks bytes) ≡ None) × Lists bytes bays
 
--- what is said of a folder that may have a table and a list
-pub data Accounted {V : Type 0} (reads : ℕ → Option V) (words : V → List ℕ) (text : List ℕ) : Option (List ℕ) → Option (List ℕ) → Type 0 where
-  no-table : (list : Option (List ℕ)) → text ≡ codes "no table" → Accounted reads words text None list
-  table-refused : (table : List ℕ) (list : Option (List ℕ)) (e : Refusal) → first-failed (table-checks reads table) ≡ Some e → text ≡ refusal-words e → Accounted reads words text (Some table) list
-  list-refused : (table list : List ℕ) (e : Refusal) → first-failed (table-checks reads table) ≡ None → first-failed (list-checks list) ≡ Some e → text ≡ refusal-words e → Accounted reads words text (Some table) (Some list)
-  opened : (table : List ℕ) (list : Option (List ℕ)) (rows : List (Row V)) (bays : List ℕ) → first-failed (table-checks reads table) ≡ None → Shows reads table rows → Listed list bays → Leaves words rows bays text → Accounted reads words text (Some table) list
+-- a table that may be missing: either something is said of it, or it was opened
+abbrev pub OpenedOrSaid : {V : Type 0} → (ℕ → Option V) → Option (List ℕ) → Opening V → Type 0
+OpenedOrSaid reads None (Said text) = string-bytes text ≡ codes "no table"
+OpenedOrSaid reads (Some bytes) (Said text) = (e : Refusal) × (first-failed (table-checks reads bytes) ≡ Some e) × (string-bytes text ≡ refusal-words e)
+OpenedOrSaid reads None (Opened table) = ⊥
+OpenedOrSaid reads (Some bytes) (Opened table) = (first-failed (table-checks reads bytes) ≡ None) × Shows reads bytes (held (table .rows))
+
+-- the account of a table's rows and of a list file that may be missing
+pub data Accounted {V : Type 0} (words : V → List ℕ) (rows : List (Row V)) (text : List ℕ) : Option (List ℕ) → Type 0 where
+  list-refused : (list : List ℕ) (e : Refusal) → first-failed (list-checks list) ≡ Some e → text ≡ refusal-words e → Accounted words rows text (Some list)
+  listed : (list : Option (List ℕ)) (bays : List ℕ) → Listed list bays → Leaves words rows bays text → Accounted words rows text list

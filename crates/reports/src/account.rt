@@ -6,8 +6,9 @@ ghost use Rattle.std.specs.Vec.{made};
 ghost use Rattle.std.specs.shelf.Lists.{kept-by};
 ghost use Rattle.leaving.specs.Leaving.{entries, keeps};
 ghost use Rattle.operations.specs.Rooms.{held};
-ghost use Rattle.reports.specs.Accounts.{bays-words, or-none, told-words, contents, listed-bays, Accounted, Leaves};
+ghost use Rattle.reports.specs.Accounts.{bays-words, or-none, told-words, contents, listed-bays, OpenedOrSaid, Accounted, Leaves};
 use crate::lines::rows_lines;
+use crate::opening::Opening;
 use leaving::without::Without;
 use leaving::without::WithoutSource;
 use leaving::without::leave_out;
@@ -23,6 +24,7 @@ use tables::refusals::ListRefused;
 use tables::refusals::TableRefused;
 use tables::table::Table;
 use tables::told::TableSource;
+use values::kind::Kind;
 use values::words::Written;
 
 // The bays that are left out, in ascending number.
@@ -95,22 +97,27 @@ fn listed(bays: &Option<Room<u32>>) -> Option<&[u32]>
     }
 }
 
-// The account of the files of a folder: the table is opened first, then the list. A table that is missing is said so, and a list
-// that is missing leaves out no bay.
-pub fn account<K: Written>(
-    heap: Global,
-    table: Option<&[u8]>,
-    list: Option<&[u8]>,
-) -> Result<String, AllocError>
-    ensures { λ r. ⌜ made r (λ text. Accounted (K·Kind .reads) (K·Written .words) (string-bytes text) (contents (table .entry)) (contents (list .entry))) ⌝ }
+// Opens the table of a folder, if it has one.
+pub fn open_table<K: Kind>(heap: Global, table: Option<&[u8]>) -> Result<Opening<K>, AllocError>
+    ensures { λ r. ⌜ made r (OpenedOrSaid (K·Kind .reads) (contents (table .entry))) ⌝ }
 {
     let Some(bytes) = table else {
-        return String::from_str(heap, "no table");
+        return Ok(Opening::Said(String::from_str(heap, "no table")?));
     };
-    let opened: Table<K> = match Table::open(Room::new(heap)?, bytes) {
-        Ok(opened) => opened,
-        Err(refused) => return refused.refusal().to_string(heap),
-    };
+    match Table::open(Room::new(heap)?, bytes) {
+        Ok(table) => Ok(Opening::Opened(table)),
+        Err(refused) => Ok(Opening::Said(refused.refusal().to_string(heap)?)),
+    }
+}
+
+// The account of a table with a list file, if there is one: its bays are left out.
+pub fn account<K: Written>(
+    heap: Global,
+    table: &Table<K>,
+    list: Option<&[u8]>,
+) -> Result<String, AllocError>
+    ensures { λ r. ⌜ made r (λ text. Accounted (K·Written .words) (held (now (table .entry) .rows)) (string-bytes text) (contents (list .entry))) ⌝ }
+{
     let bays = match list {
         Some(bytes) => match open_list(Room::new(heap)?, bytes) {
             Ok(bays) => Some(bays),
@@ -118,5 +125,5 @@ pub fn account<K: Written>(
         },
         None => None,
     };
-    account_without(heap, &opened, listed(&bays))
+    account_without(heap, table, listed(&bays))
 }

@@ -1,4 +1,4 @@
 // Reports as text.
 pub mod account;
-pub mod files;
 pub mod lines;
+pub mod opening;

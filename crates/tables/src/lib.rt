@@ -1,4 +1,5 @@
 // Tables of operations and lists of bays, as files hold them.
+mod layout;
 pub mod list;
 pub mod opening;
 pub mod reader;

@@ -1,23 +1,19 @@
 // Opening a list of bays.
 ghost use Rattle.tables.specs.Lists.{OpenedList};
+use crate::layout;
 use crate::reader::WordReader;
 use crate::refusal::ListRefusal;
 use crate::refusals::ListFromWords;
 use operations::room::Room;
 
-// The most bytes that a list may have: 512 words.
-const MOST_BYTES: usize = 2_048;
-
-const WORD_BYTES: usize = 4;
-
 // The bays that the bytes of a file list, in `bays`, whatever that held. Whether each is a bay is seen when they are left out.
 pub fn open_list(mut bays: Room<u32>, bytes: &[u8]) -> Result<Room<u32>, ListRefusal>
     ensures { λ r. ⌜ OpenedList (now (bytes .entry)) r ⌝ }
 {
-    if bytes.len() > MOST_BYTES {
+    if bytes.len() > layout::LIST {
         return Err(ListRefusal::TooLong);
     }
-    if bytes.len() % WORD_BYTES != 0 {
+    if bytes.len() % layout::WORD != 0 {
         return Err(ListRefusal::Ragged {
             length: bytes.len(),
         });

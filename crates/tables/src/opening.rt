@@ -6,6 +6,7 @@ ghost use Rattle.tables.specs.Opening.{Opened};
 ghost use Rattle.operations.specs.Checks.{first-failed};
 ghost use Rattle.tables.specs.Records.{value-checks, Valued};
 ghost use Rattle.tables.specs.Refusals.{table-refusal};
+use crate::layout;
 use crate::reader::WordReader;
 use crate::refusal::TableRefusal;
 use crate::refusals::TableFromWords;
@@ -13,11 +14,6 @@ use crate::table::Table;
 use operations::room::Room;
 use operations::row::Row;
 use values::kind::Kind;
-
-// The most bytes that a table may have: 512 records.
-const MOST_BYTES: usize = 6_144;
-
-const RECORD_BYTES: usize = 12;
 
 // The row of record `place`, with the value that its pattern stands for.
 fn valued<K: Kind>(row: Row<u32>, place: usize) -> Result<Row<K>, TableRefusal>
@@ -44,10 +40,10 @@ impl<K: Kind> Table<K> {
     pub fn open(mut rows: Room<Row<K>>, bytes: &[u8]) -> Result<Table<K>, TableRefusal>
         ensures { λ r. ⌜ Opened (K·Kind .reads) (now (bytes .entry)) r ⌝ }
     {
-        if bytes.len() > MOST_BYTES {
+        if bytes.len() > layout::TABLE {
             return Err(TableRefusal::TooLong);
         }
-        if bytes.len() % RECORD_BYTES != 0 {
+        if bytes.len() % layout::RECORD != 0 {
             return Err(TableRefusal::Ragged {
                 length: bytes.len(),
             });

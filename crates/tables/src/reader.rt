@@ -6,14 +6,11 @@ ghost use Rattle.std.specs.Options.{Cases as BySome};
 ghost use Rattle.tables.specs.Records.{bytes-of, sort-of, pattern-row};
 ghost use Rattle.tables.specs.Reading.{Handed, HandedBay};
 ghost use Rattle.tables.specs.Words.{word};
+use crate::layout;
 use crate::record::Record;
 use crate::refusal::WrongKind;
 use operations::row::Row;
 use operations::row::Sort;
-
-const WORD_BYTES: usize = 4;
-
-const RECORD_BYTES: usize = 12;
 
 // The kinds of a record's words: the first, which tells a read from a write, the start and the finish.
 const READ: u32 = 1;
@@ -40,7 +37,7 @@ fn word_at(bytes: &[u8], j: usize) -> u32
     requires { ⌜ 4 * j + 4 ≤ length (now bytes) ⌝ }
     ensures { λ r. ⌜ r ≡ word (now (bytes .entry)) j ⌝ }
 {
-    let i = 4 * j;
+    let i = layout::WORD * j;
     u32::from_be_bytes([bytes[i], bytes[i + 1], bytes[i + 2], bytes[i + 3]])
 }
 
@@ -59,7 +56,7 @@ impl<'a> WordReader<'a> {
     {
         let bytes = self.bytes;
         let first = self.word;
-        if bytes.len() - 4 * first < RECORD_BYTES {
+        if bytes.len() - layout::WORD * first < layout::RECORD {
             return Ok(None);
         }
         let kind = word_at(bytes, first) >> 30;
@@ -73,7 +70,7 @@ impl<'a> WordReader<'a> {
             return Err(WrongKind { word: first + 2 });
         }
         self.word = first + 3;
-        let part = &bytes[4 * first..4 * first + RECORD_BYTES];
+        let part = &bytes[layout::WORD * first..layout::WORD * first + layout::RECORD];
         if kind == READ {
             Ok(Some(Record::Read(part)))
         } else {
@@ -88,7 +85,7 @@ impl<'a> WordReader<'a> {
     {
         let bytes = self.bytes;
         let first = self.word;
-        if bytes.len() - 4 * first < WORD_BYTES {
+        if bytes.len() - layout::WORD * first < layout::WORD {
             return Ok(None);
         }
         let word = word_at(bytes, first);
@@ -109,7 +106,7 @@ impl Record<'_> {
             Record::Read(bytes) => (Sort::Read, bytes),
             Record::Write(bytes) => (Sort::Write, bytes),
         };
-        if bytes.len() != RECORD_BYTES {
+        if bytes.len() != layout::RECORD {
             return None;
         }
         let head = word_at(bytes, 0);

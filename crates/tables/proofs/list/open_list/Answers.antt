@@ -25,7 +25,7 @@ returns-in-Break-bay c =
     let h : HandedBay bytes i w′ (Err wrong) = bay-here (words .bytes .now) bytes (words .word) i w′ (Err wrong) (inv .0) (inv .1) (c .in-Break-bay .ensures tt .handed) in
     let fails = bay-fails bytes i (h .1) ∙ ap (λ (n : ℕ). Some (list-refusal (Words (record { word = n })))) (sym (h .2)) in
     let p = err-from-errBy (c .from-residual .result) (c .from-residual .ensures .1) in
-    rw (p .1, p .2) (list-fails bytes (c .if-bytes-gt-MOST-BYTES .left) (c .if-bytes-ne0 .left) i (list-refusal (Words wrong)) (omega (arith, h .0)) (inv .2) fails)
+    rw (p .1, p .2) (list-fails bytes (c .if-bytes-gt-LIST .left) (c .if-bytes-ne0 .left) i (list-refusal (Words wrong)) (omega (arith, h .0)) (inv .2) fails)
 
 pub loop-bays-again : need.loop-bays-again
 loop-bays-again c =
@@ -50,4 +50,4 @@ returns c =
     let same : length (words .bytes .now) ≡ length bytes = ap length (inv .0) in
     let even = c .if-bytes-ne0 .left in
     let all : 4 * i ≡ length bytes = omega (arith, h .0, words .within, same, inv .1, even) in
-    (list-passes bytes (c .if-bytes-gt-MOST-BYTES .left) even i all (inv .2), record { whole = all; each = inv .3 })
+    (list-passes bytes (c .if-bytes-gt-LIST .left) even i all (inv .2), record { whole = all; each = inv .3 })

@@ -10,7 +10,7 @@ use Rattle.std.specs.shelf.Lists.{kept-by}
 use Rattle.leaving.specs.Leaving.{keeps}
 use Rattle.operations.proofs.Places.{count-yes, kept-no, nth-kept, drop-nth, drop-rest, drop-none}
 use Rattle.leaving.proofs.without.WithoutSource.at.Needs as need
-use Rattle.leaving.proofs.without.WithoutSource.at.Needs.{in-Some·then-not-has-bit·else-passed-place, in-Some·else-not-has-bit, in-rest}
+use Rattle.leaving.proofs.without.WithoutSource.at.Needs.{in-Some·then-shows·else-passed-place, in-Some·else-shows, in-rest}
 
 pub loop-seen-holds : need.loop-seen-holds
 loop-seen-holds g c = (omega arith, omega arith, g .S·Source .begins (now (c .args .self .now .below)), refl)
@@ -21,13 +21,13 @@ loop-seen-again g c =
     let onward = g .S·Source .onward (now (c .args .self .now .below)) in
     let xs = g .S·Source .operations (now (c .args .self .now .below)) in
     elim (c .match-next .came) [
-      | in-Some·then-not-has-bit·else-passed-place w ↦
+      | in-Some·then-shows·else-passed-place w ↦
           let row = w .in-Some .step .operation .row in
           let here = sym (c .loop-seen .inv .2) ∙ w .in-Some .ensures tt in
           let test : keeps mask row ≡ true = cc in
           let counted = count-yes (keeps mask) xs i row (drop-nth xs i row _ here) test in
           (omega arith, omega arith, ap onward (w .position-is) ∙ drop-rest xs i row _ here, omega arith)
-      | in-Some·else-not-has-bit w ↦
+      | in-Some·else-shows w ↦
           let row = w .in-Some .step .operation .row in
           let here = sym (c .loop-seen .inv .2) ∙ w .in-Some .ensures tt in
           let test : keeps mask row ≡ false = cc in
