@@ -4,7 +4,7 @@ use Prim.Native.Nat.{ℕ}
 use lib.Chars.{codes}
 use Rattle.std.specs.Written.{decimal}
 use Rattle.operations.specs.declared.refusal.Layer.{Layer}
-use Rattle.operations.specs.declared.refusal.Layer.the-variants.{WordsInTable, WordsInList, Table, List as ListLayer, Source}
+use Rattle.operations.specs.declared.refusal.Layer.the-variants.{WordsInTable, WordsInList, Table, List as ListLayer, Source, Judge, Log}
 use Rattle.operations.specs.declared.refusal.Refusal.{Refusal}
 use Rattle.operations.specs.declared.row.Sort.{Sort}
 use Rattle.operations.specs.declared.row.Sort.the-variants.{Read, Write}
@@ -19,6 +19,8 @@ layer-words WordsInList = codes "words.list"
 layer-words Table = codes "table"
 layer-words ListLayer = codes "list"
 layer-words Source = codes "source"
+layer-words Judge = codes "judge"
+layer-words Log = codes "log"
 
 -- as `refused 3 at 7 by words.table`
 abbrev pub refusal-words : Refusal → List ℕ

@@ -1,17 +1,19 @@
 // What a refusal tells.
 
 // The part that a refusal came from. A word reader's refusal names the file that it read.
-#[derive(Clone, Copy, PartialEq, Eq, Debug)]
+#[derive(Clone, Copy)]
 pub enum Layer {
     WordsInTable,
     WordsInList,
     Table,
     List,
     Source,
+    Judge,
+    Log,
 }
 
 // A refusal as it is told: its number, a place and the layer that it came from.
-#[derive(Clone, Copy, PartialEq, Eq, Debug)]
+#[derive(Clone, Copy)]
 pub struct Refusal {
     pub number: u8,
     pub place: usize,

@@ -30,6 +30,8 @@ impl Layer {
             Layer::Table => "table",
             Layer::List => "list",
             Layer::Source => "source",
+            Layer::Judge => "judge",
+            Layer::Log => "log",
         }
     }
 }

@@ -1,7 +1,7 @@
 -- One word more of a list of bays. Assumes nothing.
-use mathlib.Core.Path.{_≡_, refl, ap, subst, _∙_}
-use mathlib.Core.Bool.{false, true, cond}
-use mathlib.Core.List.{List, [], _∷_}
+use mathlib.Core.Path.{_≡_, ap, subst, _∙_}
+use mathlib.Core.Bool.{cond}
+use mathlib.Core.List.{List}
 use Prim.Native.Nat.{ℕ, _+_, _*_, _/_, _%_, _≤_}
 use native.Mathlib.Omega.{arith}
 use borrow.Author.Tests.{eq-eqb, ne-eqb, le-leb}
@@ -15,10 +15,10 @@ use Rattle.operations.specs.declared.refusal.Layer.the-variants as layer
 use Rattle.operations.specs.declared.refusal.Refusal.{Refusal}
 use Rattle.operations.specs.Refusals.{refusal}
 use Rattle.operations.proofs.Checks.{each-failed, two-passed}
-use Rattle.tables.specs.declared.refusal.WrongKind.{WrongKind}
+use Rattle.words.specs.declared.refusal.WrongKind.{WrongKind}
 use Rattle.tables.specs.Lists.{bay-checks, list-checks}
-use Rattle.tables.specs.Reading.{HandedBay}
-use Rattle.tables.specs.Words.{word, kind}
+use Rattle.words.specs.Reading.{HandedBay}
+use Rattle.words.specs.Words.{word, kind}
 
 -- what the reader handed out, at the file and the word where it stood
 pub bay-here : (bs file : List ℕ) (w i w′ : ℕ) (r : Result (Option ℕ) WrongKind) → bs ≡ file → w ≡ i → HandedBay bs w w′ r → HandedBay file i w′ r

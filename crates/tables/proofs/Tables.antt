@@ -1,12 +1,12 @@
 -- One record more of a table. Assumes nothing.
 use mathlib.Core.Path.{_≡_, refl, sym, ap, _∙_, subst}
-use mathlib.Core.Bool.{Bool, true, false, _||_, _&&_}
-use mathlib.Core.List.{List, [], _∷_, _++_, map}
-use Prim.Native.Nat.{ℕ, zero, suc, _+_, _*_, _/_, _%_, _≤_, _<_}
+use mathlib.Core.Bool.{Bool, true, false}
+use mathlib.Core.List.{List, [], _∷_, map}
+use Prim.Native.Nat.{ℕ, _+_, _*_, _/_, _%_, _≤_}
 use native.Mathlib.Omega.{arith}
 use borrow.Author.Tests.{eqb-true, eq-eqb, le-leb}
 use lib.Dec.{eqb, leb}
-use lib.ListN.{length, getD, drop}
+use lib.ListN.{length, drop}
 use Rattle.std.specs.Options.{isSome}
 use Rattle.std.specs.declared.option.Option.{Option}
 use Rattle.std.specs.declared.option.Option.the-variants.{Some, None}
@@ -17,15 +17,16 @@ use Rattle.operations.specs.declared.refusal.Refusal.{Refusal}
 use Rattle.operations.specs.declared.row.Row.{Row}
 use Rattle.operations.specs.declared.row.Sort.the-variants.{Read, Write}
 use Rattle.operations.specs.Refusals.{refusal}
-use Rattle.tables.specs.declared.record.Record.{Record}
-use Rattle.tables.specs.declared.record.Record.the-variants as is
-use Rattle.tables.specs.declared.refusal.WrongKind.{WrongKind}
+use Rattle.words.specs.declared.record.Record.{Record}
+use Rattle.words.specs.declared.record.Record.the-variants as is
+use Rattle.words.specs.declared.refusal.WrongKind.{WrongKind}
 use Rattle.operations.specs.Checks.{first-failed, each-below}
-use Rattle.tables.specs.Reading.{record-kinds, record-bytes, IsRecord, Handed}
-use Rattle.tables.specs.Records.{bytes-of, sort-of, pattern-row, head-kind, RecordAt, Valued, value-checks, record-checks, table-checks}
-use Rattle.tables.specs.Words.{word, kind}
+use Rattle.words.specs.Reading.{record-kinds, record-bytes, IsRecord, Handed}
+use Rattle.tables.specs.Records.{head-kind, RecordAt, Valued, value-checks, record-checks, table-checks}
+use Rattle.words.specs.Rows.{bytes-of, sort-of, pattern-row}
+use Rattle.words.specs.Words.{word, kind}
 use Rattle.operations.proofs.Checks.{passed-then, failed-then, each-failed, passed-as, failed-as, two-passed}
-use Rattle.tables.proofs.Parts.{part-row}
+use Rattle.words.proofs.Parts.{part-row}
 
 -- words that pass have the kinds of a start and of a finish
 kinds-pass : (a b c : Bool) (u v w : ℕ) → first-failed ((a, u) ∷ ((b, v) ∷ ((c, w) ∷ []))) ≡ None → (b ≡ true) × (c ≡ true)

@@ -16,7 +16,7 @@ use Rattle.operations.specs.Refusals.{refusal}
 use Rattle.operations.specs.Rooms.{held}
 use Rattle.tables.specs.declared.refusal.ListRefusal.{ListRefusal}
 use Rattle.tables.specs.Refusals.{list-refusal}
-use Rattle.tables.specs.Words.{word, kind, content}
+use Rattle.words.specs.Words.{word, kind, content}
 
 -- the bays are the contents of the file's words, in order, one each
 pub record Lists (bytes bays : List ℕ) : Type 0 where

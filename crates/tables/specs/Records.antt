@@ -1,39 +1,23 @@
 -- The records of a table. Assumes nothing.
 use mathlib.Core.Path.{_≡_}
-use mathlib.Core.Bool.{Bool, _||_}
+use mathlib.Core.Bool.{Bool}
 use mathlib.Core.List.{List, [], _∷_, _++_, map}
-use Prim.Native.Nat.{ℕ, zero, suc, _+_, _*_, _/_, _%_, _≤_, _<_}
+use Prim.Native.Nat.{ℕ, _+_, _*_, _/_, _%_, _≤_, _<_}
 use lib.Dec.{eqb, leb}
 use lib.ListN.{length, getD}
 use Rattle.std.specs.Options.{isSome}
 use Rattle.std.specs.declared.option.Option.{Option}
-use Rattle.std.specs.declared.option.Option.the-variants.{Some, None}
-use Rattle.std.specs.declared.result.Result.{Result}
-use Rattle.std.specs.declared.result.Result.the-variants.{Ok, Err}
+use Rattle.std.specs.declared.option.Option.the-variants.{Some}
 use Rattle.operations.specs.declared.refusal.Layer.the-variants as layer
 use Rattle.operations.specs.declared.refusal.Refusal.{Refusal}
 use Rattle.operations.specs.declared.row.Row.{Row}
 use Rattle.operations.specs.declared.row.Sort.{Sort}
 use Rattle.operations.specs.declared.row.Sort.the-variants.{Read, Write}
 use Rattle.operations.specs.Refusals.{refusal}
-use Rattle.tables.specs.declared.record.Record.{Record}
-use Rattle.tables.specs.declared.record.Record.the-variants as is
 use Rattle.operations.specs.Checks.{each-below}
-use Rattle.tables.specs.Reading.{record-kinds}
-use Rattle.tables.specs.Words.{word, kind, content, bay-of, cabinet-of, pattern-of}
-
--- the bytes of a record
-abbrev pub bytes-of : Record → List ℕ
-bytes-of (is.Read part) = part .now
-bytes-of (is.Write part) = part .now
-
-abbrev pub sort-of : Record → Sort
-sort-of (is.Read part) = Read
-sort-of (is.Write part) = Write
-
--- the row of the words w, w + 1 and w + 2, with the pattern for the value
-abbrev pub pattern-row : Sort → List ℕ → ℕ → Row ℕ
-pattern-row sort bytes w = record { sort = sort; bay = bay-of (word bytes w); cabinet = cabinet-of (word bytes w); value = pattern-of (word bytes w); start = content (word bytes (w + 1)); finish = content (word bytes (w + 2)) }
+use Rattle.words.specs.Reading.{record-kinds}
+use Rattle.words.specs.Rows.{pattern-row}
+use Rattle.words.specs.Words.{word, kind, content, bay-of, cabinet-of, pattern-of}
 
 -- the kind of a record's first word
 abbrev pub head-kind : Sort → ℕ

@@ -7,7 +7,7 @@ use Rattle.tables.specs.declared.refusal.ListRefusal.{ListRefusal}
 use Rattle.tables.specs.declared.refusal.ListRefusal.the-variants as list
 use Rattle.tables.specs.declared.refusal.TableRefusal.{TableRefusal}
 use Rattle.tables.specs.declared.refusal.TableRefusal.the-variants as table
-use Rattle.tables.specs.declared.refusal.WrongKind.{WrongKind}
+use Rattle.words.specs.declared.refusal.WrongKind.{WrongKind}
 
 -- 3, the word reader's own: a word of the wrong kind; the place is the word, and the layer names the file that was read
 abbrev pub word-refusal : Layer → WrongKind → Refusal

@@ -6,14 +6,14 @@ ghost use Rattle.tables.specs.Opening.{Opened};
 ghost use Rattle.operations.specs.Checks.{first-failed};
 ghost use Rattle.tables.specs.Records.{value-checks, Valued};
 ghost use Rattle.tables.specs.Refusals.{table-refusal};
-use crate::layout;
-use crate::reader::WordReader;
 use crate::refusal::TableRefusal;
 use crate::refusals::TableFromWords;
 use crate::table::Table;
 use operations::room::Room;
 use operations::row::Row;
 use values::kind::Kind;
+use words::layout;
+use words::reader::WordReader;
 
 // The row of record `place`, with the value that its pattern stands for.
 fn valued<K: Kind>(row: Row<u32>, place: usize) -> Result<Row<K>, TableRefusal>

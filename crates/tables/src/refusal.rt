@@ -1,10 +1,5 @@
 // What can be wrong with a file.
-
-// A word of a kind that may not stand where it does; `word` is its place in the file, from 0.
-#[derive(Clone, Copy)]
-pub struct WrongKind {
-    pub word: usize,
-}
+use words::refusal::WrongKind;
 
 // What can be wrong with a table. A word reader's refusal is carried whole.
 #[derive(Clone, Copy)]

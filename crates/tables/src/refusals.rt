@@ -5,10 +5,10 @@ ghost use Rattle.tables.specs.declared.refusal.ListRefusal.the-variants as lis
 ghost use Rattle.tables.specs.declared.refusal.TableRefusal.the-variants as table;
 use crate::refusal::ListRefusal;
 use crate::refusal::TableRefusal;
-use crate::refusal::WrongKind;
 use operations::refusal::Layer;
 use operations::refusal::Refusal;
 use operations::refusals::Refused;
+use words::refusal::WrongKind;
 
 // The number of records of a table, or of words of a list, that refusal 1 names.
 const MOST: usize = 512;

@@ -1,5 +1,5 @@
 // A table as a source of operations.
-ghost use mathlib.Core.Path.{_≡_, refl};
+ghost use mathlib.Core.Path.{refl};
 ghost use lib.ListN.{drop};
 ghost use Rattle.operations.specs.Rooms.{held};
 use crate::table::Table;

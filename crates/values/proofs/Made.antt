@@ -1,10 +1,9 @@
 -- What is made of a pattern is what the pattern stands for. Assumes nothing.
-use mathlib.Core.Path.{_≡_, refl}
+use mathlib.Core.Path.{_≡_}
 use Prim.Native.Nat.{ℕ, _^_, _≤_, _<_}
 use native.Mathlib.Bridge.{le-prop}
-use native.Mathlib.Omega.{arith}
 use Rattle.std.specs.declared.option.Option.{Option}
-use Rattle.std.specs.declared.option.Option.the-variants.{Some, None}
+use Rattle.std.specs.declared.option.Option.the-variants.{Some}
 use Rattle.values.specs.declared.serial.Serial.{Serial}
 use Rattle.values.specs.declared.stamp.Stamp.{Stamp}
 use Rattle.values.specs.Patterns.{mark-of, cabinet-of, count-of, cabinet-low, count-low, serial-at, stamp-at}

@@ -1,12 +1,11 @@
 -- What serials and stamps owe as kinds of value: no larger number is a pattern, and each value has one. Assumes nothing.
-use mathlib.Core.Path.{_≡_, refl, ap, _∙_, pathJ}
+use mathlib.Core.Path.{_≡_, refl, ap, pathJ}
 use mathlib.Core.Bool.{Bool, true, false}
-use Prim.Native.Nat.{ℕ, _+_, _*_, _/_, _%_, _^_, _<_, _≤_}
+use Prim.Native.Nat.{ℕ, _+_, _*_, _/_, _^_, _<_, _≤_}
 use native.Mathlib.Bridge.{le-prop}
 use native.Mathlib.Decide.{decLt}
 use native.Mathlib.Omega.{arith}
 use lib.Dec.{eqb}
-use Rattle.std.specs.declared.option.Option.{Option}
 use Rattle.std.specs.declared.option.Option.the-variants.{Some, None}
 use Rattle.values.specs.Kinds.{Spelled}
 use Rattle.values.specs.declared.serial.Serial.{Serial}

@@ -1,5 +1,5 @@
-use mathlib.Core.Path.{_≡_, ap, sym, subst}
-use mathlib.Core.List.{List, []}
+use mathlib.Core.Path.{ap, sym, subst}
+use mathlib.Core.List.{List}
 use Prim.Native.Nat.{ℕ}
 use native.Mathlib.Omega.{arith}
 use lib.ListN.{length}

@@ -1,6 +1,6 @@
 use mathlib.Core.Path.{_≡_, ap, sym, subst, _∙_}
 use mathlib.Core.List.{List, [], _∷_, _++_}
-use Prim.Native.Nat.{ℕ, _+_, _*_, _≤_, _<_}
+use Prim.Native.Nat.{ℕ, _+_, _*_, _<_}
 use native.Mathlib.Omega.{arith}
 use lib.ListN.{length, getD}
 use Rattle.std.specs.declared.option.Option.the-variants.{Some, None}
@@ -12,9 +12,9 @@ use Rattle.operations.specs.Rooms.{held}
 use Rattle.operations.proofs.Checks.{each-passed, each-push}
 use Rattle.tables.specs.declared.refusal.ListRefusal.the-variants.{Words}
 use Rattle.tables.specs.Lists.{bay-checks}
-use Rattle.tables.specs.Reading.{HandedBay}
+use Rattle.words.specs.Reading.{HandedBay}
 use Rattle.tables.specs.Refusals.{list-refusal}
-use Rattle.tables.specs.Words.{word, content}
+use Rattle.words.specs.Words.{word, content}
 use Rattle.tables.proofs.Lists.{bay-here, bay-passes, bay-fails, list-fails, list-passes}
 use Rattle.tables.proofs.list.open_list.Needs as need
 

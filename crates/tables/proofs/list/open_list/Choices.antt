@@ -5,7 +5,7 @@ use Rattle.operations.specs.Checks.{first-failed, each-below}
 use Rattle.operations.specs.Rooms.{held}
 use Rattle.std.specs.declared.option.Option.the-variants.{None}
 use Rattle.tables.specs.Lists.{bay-checks}
-use Rattle.tables.specs.Words.{word, content}
+use Rattle.words.specs.Words.{word, content}
 use Rattle.tables.proofs.list.open_list.Given as given
 
 abbrev pub Inv-loop-bays : given.InvT-loop-bays

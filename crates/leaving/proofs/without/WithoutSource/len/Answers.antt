@@ -5,7 +5,6 @@ use native.Mathlib.Omega.{arith}
 use denote.Ref.{now}
 use lib.ListN.{length}
 use lib.Seq.{take-all}
-use Rattle.std.specs.Finite.{nth}
 use Rattle.std.specs.shelf.Lists.{kept-by}
 use Rattle.leaving.specs.Leaving.{keeps}
 use Rattle.operations.proofs.Places.{count-yes, kept-no, drop-nth, drop-rest, drop-none}

@@ -10,3 +10,9 @@ returns-in-Table c = ap layer-words (sym (c .in-Table .is))
 
 pub returns-in-Source : need.returns-in-Source
 returns-in-Source c = ap layer-words (sym (c .in-Source .is))
+
+pub returns-in-Judge : need.returns-in-Judge
+returns-in-Judge c = ap layer-words (sym (c .in-Judge .is))
+
+pub returns-in-Log : need.returns-in-Log
+returns-in-Log c = ap layer-words (sym (c .in-Log .is))

@@ -9,11 +9,10 @@ use Rattle.std.proofs.shelf.Lists.{length-push}
 use Rattle.std.proofs.shelf.Results.{err-from-errBy}
 use Rattle.operations.specs.Rooms.{held}
 use Rattle.operations.specs.declared.row.Row.{Row}
-use Rattle.tables.specs.Opening.{Opened}
 use Rattle.operations.specs.Checks.{first-failed, each-below}
-use Rattle.tables.specs.Reading.{Handed}
+use Rattle.words.specs.Reading.{Handed}
 use Rattle.tables.specs.declared.refusal.TableRefusal.the-variants.{Words}
-use Rattle.tables.specs.Records.{RecordAt, value-checks, record-checks, Shows}
+use Rattle.tables.specs.Records.{RecordAt, value-checks, record-checks}
 use Rattle.tables.specs.Refusals.{table-refusal}
 use Rattle.operations.proofs.Checks.{each-passed, each-push}
 use Rattle.tables.proofs.Tables.{handed-here, handed-row, twelve, record-holds, record-passes, value-fails, word-fails, table-fails, table-passes}

@@ -1,7 +1,4 @@
-use mathlib.Core.Path.{_≡_}
-use Prim.Native.Nat.{_<_}
 use native.Mathlib.Omega.{arith}
-use lib.ListN.{length}
 use Rattle.std.proofs.shelf.Lists.{drop-all}
 use Rattle.operations.specs.Rooms.{held}
 use Rattle.operations.proofs.Places.{nth-within, nth-drop}

@@ -1,0 +1,4 @@
+pub mod Holding
+pub mod Carrying
+pub mod Telling
+pub mod Surveying

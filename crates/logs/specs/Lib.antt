@@ -1,0 +1,5 @@
+pub mod Cabinets
+pub mod States
+pub mod Steps
+pub mod Stands
+pub mod Surveys

@@ -1,0 +1,16 @@
+pub mod Counts
+pub mod Sequences
+pub mod Sorted
+pub mod Operations
+pub mod Ages
+pub mod ToValueOrders
+pub mod FromValueOrders
+pub mod Existence
+pub mod Restricting
+pub mod Combining
+pub mod LeastAges
+pub mod Growing
+pub mod Listed
+pub mod Unique
+pub mod Judged
+pub mod Worked

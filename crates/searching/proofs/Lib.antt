@@ -1,0 +1,12 @@
+pub mod Members
+pub mod BitSets
+pub mod Indices
+pub mod Fine
+pub mod Enumeration
+pub mod Holding
+pub mod Listing
+pub mod Counting
+pub mod Masked
+pub mod State
+pub mod Ages
+pub mod Renaming
