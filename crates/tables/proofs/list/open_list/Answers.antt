@@ -1,6 +1,6 @@
 use mathlib.Core.Path.{_≡_, ap, sym, subst, _∙_}
 use mathlib.Core.List.{List, [], _∷_, _++_}
-use Prim.Native.Nat.{ℕ, _+_, _*_, _<_}
+use Prim.Native.Nat.{ℕ, _+_, _*_, _≤_, _<_}
 use native.Mathlib.Omega.{arith}
 use lib.ListN.{length, getD}
 use Rattle.std.specs.declared.option.Option.the-variants.{Some, None}
@@ -25,7 +25,8 @@ returns-in-Break-bay c =
     let h : HandedBay bytes i w′ (Err wrong) = bay-here (words .bytes .now) bytes (words .word) i w′ (Err wrong) (inv .0) (inv .1) (c .in-Break-bay .ensures tt .handed) in
     let fails = bay-fails bytes i (h .1) ∙ ap (λ (n : ℕ). Some (list-refusal (Words (record { word = n })))) (sym (h .2)) in
     let p = err-from-errBy (c .from-residual .result) (c .from-residual .ensures .1) in
-    rw (p .1, p .2) (list-fails bytes (c .if-bytes-gt-LIST .left) (c .if-bytes-ne0 .left) i (list-refusal (Words wrong)) (omega (arith, h .0)) (inv .2) fails)
+    let short : length bytes ≤ 2048 = omega arith in
+    rw (p .1, p .2) (list-fails bytes short (c .if-bytes-ne0 .left) i (list-refusal (Words wrong)) (omega (arith, h .0)) (inv .2) fails)
 
 pub loop-bays-again : need.loop-bays-again
 loop-bays-again c =
@@ -49,5 +50,6 @@ returns c =
     let h : HandedBay bytes i w′ (Ok None) = bay-here (words .bytes .now) bytes (words .word) i w′ (Ok None) (inv .0) (inv .1) handed in
     let same : length (words .bytes .now) ≡ length bytes = ap length (inv .0) in
     let even = c .if-bytes-ne0 .left in
+    let short : length bytes ≤ 2048 = omega arith in
     let all : 4 * i ≡ length bytes = omega (arith, h .0, words .within, same, inv .1, even) in
-    (list-passes bytes (c .if-bytes-gt-LIST .left) even i all (inv .2), record { whole = all; each = inv .3 })
+    (list-passes bytes short even i all (inv .2), record { whole = all; each = inv .3 })

@@ -23,7 +23,7 @@ returns-in-Break-found g c =
     let reads = g .K·Kind .reads in let bytes = c .args .bytes .now in let rows = c .loop-rows .rows in let words = c .loop-rows .words in
     let inv = c .loop-rows .inv in let i = length (held rows) in let wrong = c .in-Break-found .field-0 .0 in
     let h : Handed bytes (3 * i) (c .next-record .last .self .word) (Err wrong) = handed-here (words .bytes .now) bytes (words .word) i (c .next-record .last .self .word) (inv .0) (inv .1) (Err wrong) (c .in-Break-found .ensures tt .handed) in
-    let short : length bytes ≤ 6144 = c .if-bytes-gt-TABLE .left in
+    let short : length bytes ≤ 6144 = omega arith in
     let even = c .if-bytes-ne0 .left in
     let fails = table-fails reads bytes short even i (table-refusal (Words wrong)) (omega (arith, h .0)) (inv .2) (word-fails reads bytes i (wrong .word) (h .1)) in
     let p = err-from-errBy (c .from-residual .result) (c .from-residual .ensures .1) in
@@ -44,9 +44,10 @@ returns-in-Break-valued g c =
     let handed : Handed (words .bytes .now) (words .word) w′ (Ok (Some found)) = subst (λ o. Handed (words .bytes .now) (words .word) w′ (Ok o)) (c .in-Some .is) (c .in-Continue-found .ensures tt .handed) in
     let h : Handed bytes (3 * i) w′ (Ok (Some found)) = handed-here (words .bytes .now) bytes (words .word) i w′ (inv .0) (inv .1) (Ok (Some found)) handed in
     let row = c .in-Some-row .row in let refused = c .in-Break-valued .field-0 .0 in
+    let short : length bytes ≤ 6144 = omega arith in
     let made = handed-row bytes (3 * i) found row (h .2) (c .in-Some-row .ensures tt) in
     let wrong = subst (λ place. first-failed (value-checks reads row place) ≡ Some (table-refusal refused)) (c .len .ensures) (c .in-Break-valued .ensures tt) in
-    let fails = table-fails reads bytes (c .if-bytes-gt-TABLE .left) (c .if-bytes-ne0 .left) i (table-refusal refused) (omega (arith, h .0)) (inv .2) (value-fails reads bytes i found row (h .1) (h .2) made (table-refusal refused) wrong) in
+    let fails = table-fails reads bytes short (c .if-bytes-ne0 .left) i (table-refusal refused) (omega (arith, h .0)) (inv .2) (value-fails reads bytes i found row (h .1) (h .2) made (table-refusal refused) wrong) in
     let p = err-from-errBy (c .from-residual-in-Break-valued .result) (c .from-residual-in-Break-valued .ensures .1) in
     rw (p .1, p .2) fails
 
@@ -76,5 +77,6 @@ returns g c =
     let h : Handed bytes (3 * i) w′ (Ok None) = handed-here (words .bytes .now) bytes (words .word) i w′ (inv .0) (inv .1) (Ok None) handed in
     let same : length (words .bytes .now) ≡ length bytes = ap length (inv .0) in
     let even = c .if-bytes-ne0 .left in
+    let short : length bytes ≤ 6144 = omega arith in
     let all : 12 * i ≡ length bytes = omega (arith, h .0, words .within, same, inv .1, even) in
-    (table-passes reads bytes (c .if-bytes-gt-TABLE .left) even i all (inv .2), record { whole = all; each = inv .3 })
+    (table-passes reads bytes short even i all (inv .2), record { whole = all; each = inv .3 })
