@@ -1,4 +1,6 @@
 // The judge of one bay of a table of serials, for programs in other languages to call.
+#![tactic(auto)]
+
 ghost use Rattle.std.specs.Prelude.{◌≡◌, Option};
 ghost use Rattle.judging.specs.declared.judgment.Judgment.{Judgment};
 ghost use Rattle.bench_judge.specs.Tables.{TableJudged, age_of, trials_of};

@@ -1,4 +1,6 @@
 // Judges the worked cases of one bay and compares each answer with what it should be.
+#![tactic(auto)]
+
 mod cases;
 mod judged;
 

@@ -1,4 +1,6 @@
 // Compares the judge of one bay with all lawful orders and all run-ups of small bays.
+#![tactic(auto)]
+
 mod acts;
 mod faults;
 mod orders;

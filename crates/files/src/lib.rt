@@ -1,4 +1,6 @@
 // The beginnings of files, read from the folder that a program is run in.
+#![tactic(auto)]
+
 ghost use Rattle.std.specs.Prelude.{◌≤◌, IfOk, vec_len};
 ghost use Rattle.files.specs.Beginnings.{AtMost};
 

@@ -1,4 +1,6 @@
 // Judging one bay.
+#![tactic(auto)]
+
 pub mod bay;
 pub mod copying;
 pub mod fault;

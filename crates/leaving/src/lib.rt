@@ -1,2 +1,4 @@
 // Sources with bays left out.
+#![tactic(auto)]
+
 pub mod without;

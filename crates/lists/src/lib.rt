@@ -1,4 +1,6 @@
 // A bounded list over a lent slice: as long as it may grow, the slice has place for it. It serves elements of every kind.
+#![tactic(auto)]
+
 ghost use Rattle.std.specs.Prelude.{◌≡◌, ◌+◌, ◌<◌, ◌≤◌, min, length, MatchOption, MatchResult, slice_index_or, slice_set};
 
 // The first `len` elements of the slice are the list; those behind them are left as they are.

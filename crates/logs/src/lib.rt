@@ -1,4 +1,6 @@
 // Logs: operations recorded as they happen, on a storage that goes into each call, and shown when the log is closed.
+#![tactic(auto)]
+
 pub mod cabinet;
 pub mod calls;
 pub mod handed_back;

@@ -1,4 +1,6 @@
 // Sets of numbers below 64 as masks of 64 bits.
+#![tactic(auto)]
+
 ghost use Rattle.std.specs.Prelude.{◌≡◌};
 ghost use Rattle.masks.specs.Masks.{has_bit, Added};
 

@@ -1,4 +1,6 @@
 // Opens tables and lists of every sort and compares each answer with what it should be.
+#![tactic(auto)]
+
 mod bays;
 mod cases;
 mod files;

@@ -1,4 +1,6 @@
 // Operations, and the sources that tell them.
+#![tactic(auto)]
+
 pub mod copying;
 pub mod operation;
 pub mod refusal;

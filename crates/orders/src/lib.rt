@@ -1,4 +1,6 @@
 // Lawful orders, ages, run-ups and value orders: the definitions, and the theorems on them.
+#![tactic(auto)]
+
 ghost use Rattle.orders.specs.Claims.{ValueOrdersAreLawfulOrders, TryingEnds, TriedIsLeastAge, UnreadIsLeastAge, LawfulOrdersExist, BaysCombine, OrdersRestrict, LargestIsLeastAge, NothingIsLeastAge, ListingHoldsRunUps, ListingGivesTrials, ListingGivesFirst, ListingGivesTried, BayIsTried, TrialsAreUnique, FirstIsUnique, TriedIsUnique};
 ghost use Rattle.orders.specs.Cases.{CasesHold};
 

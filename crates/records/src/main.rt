@@ -1,4 +1,6 @@
 // Prints the account of table.bin and bays.bin in the folder that it is run in. The table's values are serials.
+#![tactic(auto)]
+
 use files::contents;
 use reports::account::{account, open_table};
 use reports::opening::Opening;

@@ -1,4 +1,6 @@
 // What a row is to a bay, and what two rows are to one another.
+#![tactic(auto)]
+
 ghost use Rattle.std.specs.Prelude.{◌≡◌, not, ◌&&◌, ◌==◌};
 ghost use Rattle.orders.specs.Orders.{before, alike};
 ghost use Rattle.relations.specs.Meanings.{writing, meant};

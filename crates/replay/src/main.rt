@@ -1,5 +1,7 @@
 // Runs the script in the file that it is given, or in script.txt, on a log as one life, and prints the account. The script's values
 // are serials.
+#![tactic(auto)]
+
 use anyhow::anyhow;
 use logs::storage::Storage;
 use operations::refusals::Refused;

@@ -1,4 +1,6 @@
 // Scripts of calls, run on a log as one life.
+#![tactic(auto)]
+
 pub mod answer;
 pub mod call;
 pub mod desk;

@@ -1,4 +1,6 @@
 // Reports as text.
+#![tactic(auto)]
+
 pub mod account;
 pub mod lines;
 pub mod opening;

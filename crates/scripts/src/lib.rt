@@ -1,4 +1,6 @@
 // Scripts as text, and the account of what they led to.
+#![tactic(auto)]
+
 pub mod account;
 mod guesses;
 pub mod line;

@@ -1,4 +1,6 @@
 // Surveys as text.
+#![tactic(auto)]
+
 mod lines;
 pub mod summary;
 pub mod text;

@@ -1,4 +1,6 @@
 // Prints the survey of table.bin, with the bays of bays.bin left out, in the folder that it is run in. The table's values are stamps.
+#![tactic(auto)]
+
 use files::contents;
 use reports::account::open_table;
 use reports::opening::Opening;

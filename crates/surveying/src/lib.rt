@@ -1,4 +1,6 @@
 // The survey of a crane.
+#![tactic(auto)]
+
 mod crane;
 pub mod desk;
 pub mod desks;

@@ -1,4 +1,6 @@
 // Tables of operations and lists of bays, as files hold them.
+#![tactic(auto)]
+
 pub mod list;
 pub mod opening;
 pub mod refusal;
