@@ -1,8 +1,9 @@
 // Operations.
-ghost use Rattle.std.specs.Prelude.{◌≡◌, ◌≤◌, MatchOption};
+ghost use Rattle.std.specs.Prelude.{◌≡◌, ◌≤◌, MatchOption, ⊤};
 ghost use Rattle.operations.specs.Rows.{Valid};
 
 use crate::row::Row;
+use std::alloc::AllocError;
 
 // The last bay and the last cabinet.
 const LAST: u8 = 63;
@@ -11,7 +12,6 @@ const LAST: u8 = 63;
 const LAST_TICK: u32 = 1_073_741_823;
 
 // An operation: a row that keeps the rules.
-#[derive(Clone, Copy)]
 pub struct Operation<V> {
     row: Row<V>,
     ghost bays: { row.bay ≤ 63 },
@@ -19,6 +19,18 @@ pub struct Operation<V> {
     ghost order: { row.start ≤ row.finish },
     ghost ticks: { row.finish ≤ 1073741823 },
 }
+
+impl<V: Copy> Clone for Operation<V> {
+    ghost is_clone = { λ x y. y ≡ x };
+
+    ghost is_infallible = { λ _. ⊤ };
+
+    fn clone(&self) -> Result<Operation<V>, AllocError> {
+        Ok(*self)
+    }
+}
+
+impl<V: Copy> Copy for Operation<V> {}
 
 impl<V: Copy> Operation<V> {
     // The operation that a row describes, if it describes one.

@@ -2,7 +2,7 @@
 use crate::operation::Operation;
 
 // An operation, and the position at which the pass goes on.
-#[derive(Clone, Copy)]
+#[derive_where(Clone, Copy; V: Copy)]
 pub struct Step<V> {
     pub operation: Operation<V>,
     pub next: usize,

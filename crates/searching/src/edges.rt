@@ -3,7 +3,7 @@ ghost use Rattle.std.specs.Prelude.{◌≡◌, ◌≤◌, length};
 
 // Both tables have one mask for each write. `before` has, for a write v, the writes with a write edge into v; `behind` has, for a
 // write u, the writes that u has a read edge to.
-#[derive_where(Clone, Copy)]
+#[derive(Clone, Copy)]
 pub struct Edges<'a> {
     pub before: &'a [u64],
     pub behind: &'a [u64],

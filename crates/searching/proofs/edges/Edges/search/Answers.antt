@@ -20,12 +20,12 @@ ages-init c =
 pub place-init : goal.place-init
 place-init c = enter c.ages.invariant.0 c.ages.invariant.1 c.ages.invariant.3
 
-pub returns-in-err-trials : goal.returns-in-err-trials
-returns-in-err-trials c =
-    let p = err_from_is_err_and c.from-residual.result c.from-residual.ensures.1 in
-    let over-limit = c.in-err-trials.ensures in
+pub returns-in_err-trials : goal.returns-in_err-trials
+returns-in_err-trials c =
+    let p = err_from_is_err_and c.from_residual.result c.from_residual.ensures.1 in
+    let over-limit = c.in_err-trials.ensures in
     let at = c.pick.invariant.0 c.ages.trials c.place.invariant in
-    let passes = over at c.pick-test.true c.if-may-take.ensures over-limit.0 in
+    let passes = over at c.pick-test.true c.if-may_take.ensures over-limit.0 in
     let own = at.sound.some_k in
     let tried = c.ages.invariant.2 in
     rw (p.1, p.2, over-limit.1) (
@@ -43,20 +43,20 @@ push-requires c =
     let at = c.pick.invariant.0 c.ages.trials c.place.invariant in
     (holds at.sound, (omega (arith, at.short, at.sound.small), (omega (arith, at.sound.small), at.sound.some_k)))
 
-pub place-smaller-then-may-take : goal.place-smaller-then-may-take
-place-smaller-then-may-take c =
+pub place-smaller-then-may_take : goal.place-smaller-then-may_take
+place-smaller-then-may_take c =
     let at = c.pick.invariant.0 c.ages.trials c.place.invariant in
-    let less = push_less at c.pick-test.true c.if-may-take.ensures _ c.push.ensures _ c.in-ok-trials.ensures.0 c.in-ok-trials.ensures.1 in
+    let less = push_less at c.pick-test.true c.if-may_take.ensures _ c.push.ensures _ c.in_ok-trials.ensures.0 c.in_ok-trials.ensures.1 in
     omega (arith, c.pick.invariant.1)
 
-pub place-preserved-then-may-take : goal.place-preserved-then-may-take
-place-preserved-then-may-take c =
+pub place-preserved-then-may_take : goal.place-preserved-then-may_take
+place-preserved-then-may_take c =
     let at = c.pick.invariant.0 c.ages.trials c.place.invariant in
-    push at c.pick-test.true c.if-may-take.ensures _ c.push.ensures _ c.in-ok-trials.ensures.0 c.in-ok-trials.ensures.1 c.if-standing-n.false
+    push at c.pick-test.true c.if-may_take.ensures _ c.push.ensures _ c.in_ok-trials.ensures.0 c.in_ok-trials.ensures.1 c.if-standing-n.false
 
 pub pick-preserved : goal.pick-preserved
 pick-preserved c = (
-  λ from at. skip (c.pick.invariant.0 from at) c.pick-test.true c.if-may-take.ensures,
+  λ from at. skip (c.pick.invariant.0 from at) c.pick-test.true c.if-may_take.ensures,
   omega (arith, c.pick.invariant.1),
 )
 
@@ -65,8 +65,8 @@ pop-write-requires c =
     let at = c.pick.invariant.0 c.ages.trials c.place.invariant in
     (holds at.sound, (omega arith, at.sound.some_k))
 
-pub overflow-add-write-in-place : goal.overflow-add-write-in-place
-overflow-add-write-in-place c =
+pub overflow_add-write-in-place : goal.overflow_add-write-in-place
+overflow_add-write-in-place c =
     let at = c.pick.invariant.0 c.ages.trials c.place.invariant in
     let lt = top_below at (omega arith) in
     omega (arith, c.pop-write.ensures.0, at.sound.small)
@@ -104,7 +104,7 @@ ages-preserved c =
 pub returns : goal.returns
 returns c =
     let at = c.pick.invariant.0 c.ages.trials c.place.invariant in
-    let first = found at c.pick-test.true c.if-may-take.ensures _ c.push.ensures _ c.in-ok-trials.ensures.1 c.if-standing-n.true in
+    let first = found at c.pick-test.true c.if-may_take.ensures _ c.push.ensures _ c.in_ok-trials.ensures.1 c.if-standing-n.true in
     let own = at.sound.some_k in (
       record {
         from_one = own;
@@ -112,5 +112,5 @@ returns c =
         first = first.0;
         trials = trials_more _ c.ages.k c.ages.trials first.1.0 _ own c.ages.invariant.4 first.1.1 first.1.2;
       },
-      omega (arith, c.in-ok-trials.ensures.0, c.in-ok-trials.ensures.1),
+      omega (arith, c.in_ok-trials.ensures.0, c.in_ok-trials.ensures.1),
     )
