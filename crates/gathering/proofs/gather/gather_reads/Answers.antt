@@ -5,7 +5,7 @@ use Rattle.relations.proofs.Told.{told_at, told_length}
 use Rattle.gathering.specs.Gathering.{Seen, ReadsUpTo}
 use Rattle.gathering.proofs.Noted.{noted_nothing, other_step, read_step}
 use Rattle.gathering.proofs.gather.gather_reads.Goals as goal
-use Rattle.gathering.proofs.gather.gather_reads.Goals.{then-reads-in, else-reads-in}
+use Rattle.gathering.proofs.gather.gather_reads.Goals.{then-reads_in, else-reads_in}
 
 pub loop-place-init : goal.loop-place-init
 loop-place-init g c = (c.requires, noted_nothing (told g.V.Kind.meaning c.args.rows.now) c.args.number)
@@ -21,12 +21,12 @@ loop-place-preserved g c =
     let row = c.index-rows-place.result in
     let within : n < length ops = omega (arith, told_length m rows, c.loop-place-test.true) in
     let here = told_at m rows n row c.loop-place-test.true c.index-rows-place.is in
-    elim c.if-reads-in.branch [
-      | then-reads-in w ↦
-          let step = read_step ops b n within c.loop-place.reads c.loop-place.invariant.1 m ws c.loop-place.invariant.0 row here (sym c.reads-in.ensures ∙ w.if-reads-in.true) _ w.add-read.result w.add-read.ensures in
+    elim c.if-reads_in.branch [
+      | then-reads_in w ↦
+          let step = read_step ops b n within c.loop-place.reads c.loop-place.invariant.1 m ws c.loop-place.invariant.0 row here (sym c.reads_in.ensures ∙ w.if-reads_in.true) _ w.add_read.result w.add_read.ensures in
           (subst (λ r. Seen m ops b (n + 1) (held r)) (sym w.writes-is) step.0, subst (ReadsUpTo ops b (n + 1)) (sym (w.reads-is ∙ w.with-reads.ensures)) step.1)
-      | else-reads-in w ↦
-          let step = other_step ops b n within c.loop-place.reads c.loop-place.invariant.1 m ws c.loop-place.invariant.0 row here (sym c.reads-in.ensures ∙ w.if-reads-in.false) in
+      | else-reads_in w ↦
+          let step = other_step ops b n within c.loop-place.reads c.loop-place.invariant.1 m ws c.loop-place.invariant.0 row here (sym c.reads_in.ensures ∙ w.if-reads_in.false) in
           (subst (λ r. Seen m ops b (n + 1) (held r)) (sym w.writes-is) step.0, subst (ReadsUpTo ops b (n + 1)) (sym w.reads-is) step.1)
     ]
 

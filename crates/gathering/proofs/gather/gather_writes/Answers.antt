@@ -8,7 +8,7 @@ use Rattle.relations.proofs.Told.{told_at, told_length}
 use Rattle.gathering.specs.Gathering.{Wrote}
 use Rattle.gathering.proofs.Wrote.{wrote_none, wrote_yes, wrote_no, twice_yes, twice_no, not_twice, wrote_over}
 use Rattle.gathering.proofs.gather.gather_writes.Goals as goal
-use Rattle.gathering.proofs.gather.gather_writes.Goals.{then-writes-in+in-ok-add-write+then-branch, then-writes-in+in-ok-add-write+else-branch, else-writes-in}
+use Rattle.gathering.proofs.gather.gather_writes.Goals.{then-writes_in+in_ok-add_write+then-branch, then-writes_in+in_ok-add_write+else-branch, else-writes_in}
 
 pub loop-place-init : goal.loop-place-init
 loop-place-init g c =
@@ -28,35 +28,35 @@ loop-place-preserved g c =
     let lowest = c.loop-place.invariant.1 in
     let within : n < length ops = omega (arith, told_length m rows, c.loop-place-test.true) in
     let here = told_at m rows n row c.loop-place-test.true c.index-rows-place.is in
-    elim c.if-writes-in.branch [
-      | then-writes-in+in-ok-add-write+then-branch w ↦
-          let e = sym c.writes-in.ensures ∙ w.if-writes-in.true in
-          let added = w.in-ok-add-write.ensures in (
+    elim c.if-writes_in.branch [
+      | then-writes_in+in_ok-add_write+then-branch w ↦
+          let e = sym c.writes_in.ensures ∙ w.if-writes_in.true in
+          let added = w.in_ok-add_write.ensures in (
             subst (λ r. Wrote m ops b (n + 1) (held r)) (sym w.writes-is) (wrote_yes m ops b n ws so_far row within here e _ added.0 added.1),
             subst (Lowest (n + 1) (faulty (of_bay b) written_twice ops)) (sym (w.twice-is ∙ w.or-twice.ensures)) (twice_yes m ops b n ws so_far row within here e c.loop-place.twice _ lowest added.2 w.if-branch.true),
           )
-      | then-writes-in+in-ok-add-write+else-branch w ↦
-          let e = sym c.writes-in.ensures ∙ w.if-writes-in.true in
-          let added = w.in-ok-add-write.ensures in (
+      | then-writes_in+in_ok-add_write+else-branch w ↦
+          let e = sym c.writes_in.ensures ∙ w.if-writes_in.true in
+          let added = w.in_ok-add_write.ensures in (
             subst (λ r. Wrote m ops b (n + 1) (held r)) (sym w.writes-is) (wrote_yes m ops b n ws so_far row within here e _ added.0 added.1),
             subst (Lowest (n + 1) (faulty (of_bay b) written_twice ops)) (sym w.twice-is) (twice_no m ops b n ws so_far row within here e c.loop-place.twice _ lowest added.2 w.if-branch.false),
           )
-      | else-writes-in w ↦
-          let e = sym c.writes-in.ensures ∙ w.if-writes-in.false in (
+      | else-writes_in w ↦
+          let e = sym c.writes_in.ensures ∙ w.if-writes_in.false in (
             subst (λ r. Wrote m ops b (n + 1) (held r)) (sym w.writes-is) (wrote_no m ops b n ws so_far row within here e),
             subst (Lowest (n + 1) (faulty (of_bay b) written_twice ops)) (sym w.twice-is) (not_twice m ops b n ws so_far row within here e c.loop-place.twice lowest),
           )
     ]
 
-pub returns-in-err-add-write : goal.returns-in-err-add-write
-returns-in-err-add-write g c =
+pub returns-in_err-add_write : goal.returns-in_err-add_write
+returns-in_err-add_write g c =
     let m = g.V.Kind.meaning in
     let rows = c.args.rows.now in
     let within : c.loop-place.place < length (told m rows) = omega (arith, told_length m rows, c.loop-place-test.true) in
     let here = told_at m rows c.loop-place.place c.index-rows-place.result c.loop-place-test.true c.index-rows-place.is in
-    let p = err_from_is_err_and c.from-residual.result c.from-residual.ensures.1 in
-    let refused = c.in-err-add-write.ensures in
-    record { few = subst (λ ws. length ws ≤ 64) (sym refused.1) c.loop-place.invariant.0.few; gathered = rw p.1 (wrote_over m (told m rows) c.args.number c.loop-place.place (held c.loop-place.writes) c.loop-place.invariant.0 c.index-rows-place.result within here (sym c.writes-in.ensures ∙ c.if-writes-in.true) refused.0) }
+    let p = err_from_is_err_and c.from_residual.result c.from_residual.ensures.1 in
+    let refused = c.in_err-add_write.ensures in
+    record { few = subst (λ ws. length ws ≤ 64) (sym refused.1) c.loop-place.invariant.0.few; gathered = rw p.1 (wrote_over m (told m rows) c.args.number c.loop-place.place (held c.loop-place.writes) c.loop-place.invariant.0 c.index-rows-place.result within here (sym c.writes_in.ensures ∙ c.if-writes_in.true) refused.0) }
 
 pub returns : goal.returns
 returns g c =

@@ -8,7 +8,7 @@ loop-place-preserved c =
     let xs = c.args.bays.now in let i = c.loop-place.place in
     let lt : i < length xs = search rules in
     let small : get_or xs i 0 ≤ 63 = search rules in
-    (omega arith, below_more (λ k. get_or xs k 0 ≤ 63) i c.loop-place.invariant.1 small, mask_more xs i c.loop-place.mask c.with-bit-mask.result lt small c.loop-place.invariant.2 (search rules))
+    (omega arith, below_more (λ k. get_or xs k 0 ≤ 63) i c.loop-place.invariant.1 small, mask_more xs i c.loop-place.mask c.with_bit-mask.result lt small c.loop-place.invariant.2 (search rules))
 
 pub returns : goal.returns
 returns c =

@@ -3,14 +3,14 @@ use Rattle.std.specs.List.{slice_get}
 use Rattle.leaving.specs.Leaving.{keeps}
 use Rattle.operations.proofs.Places.{count_yes, kept_no, nth_kept, drop_nth, drop_rest, drop_none}
 use Rattle.leaving.proofs.without.WithoutSource.at.Goals as goal
-use Rattle.leaving.proofs.without.WithoutSource.at.Goals.{in-Some+then-shows+else-passed-place, in-Some+else-shows, in-default}
+use Rattle.leaving.proofs.without.WithoutSource.at.Goals.{in-Some+then-shows+else-passed-place, in-Some+else-shows, in_default}
 
 pub loop-seen-init : goal.loop-seen-init
 loop-seen-init g c = (omega arith, omega arith, g.S.Source.begins c.args.self.now.below.now, refl)
 
 pub loop-seen-preserved : goal.loop-seen-preserved
 loop-seen-preserved g c =
-    let mask = c.args.self.now.mask in let i = c.loop-seen.-seen in
+    let mask = c.args.self.now.mask in let i = c.loop-seen._seen in
     let onward = g.S.Source.onward c.args.self.now.below.now in
     let xs = g.S.Source.operations c.args.self.now.below.now in
     elim c.match-next.branch [
@@ -26,8 +26,8 @@ loop-seen-preserved g c =
           let test : keeps mask row ≡ false = cc in
           let counted = ap length (kept_no (keeps mask) xs i row (drop_nth xs i row _ here) test) in
           (omega arith, omega arith, ap onward w.position-is ∙ drop_rest xs i row _ here, omega arith)
-      | in-default w ↦
-          let none = drop_none xs i (sym c.loop-seen.invariant.2 ∙ w.in-default.ensures) in
+      | in_default w ↦
+          let none = drop_none xs i (sym c.loop-seen.invariant.2 ∙ w.in_default.ensures) in
           absurd (omega arith)
     ]
 
@@ -39,12 +39,12 @@ returns-then-passed-place g c =
     let here = sym c.loop-seen.invariant.2 ∙ c.in-Some.ensures in
     let test : keeps mask row ≡ true = cc in
     ap (slice_get (filter (keeps mask) xs)) (sym c.if-passed-place.true ∙ c.loop-seen.invariant.3)
-    ∙ nth_kept (keeps mask) xs c.loop-seen.-seen row (drop_nth xs c.loop-seen.-seen row _ here) test
+    ∙ nth_kept (keeps mask) xs c.loop-seen._seen row (drop_nth xs c.loop-seen._seen row _ here) test
 
 pub returns : goal.returns
 returns g c =
     let mask = c.args.self.now.mask in
     let xs = g.S.Source.operations c.args.self.now.below.now in
-    let h : length xs ≤ c.loop-seen.-seen = omega arith in
+    let h : length xs ≤ c.loop-seen._seen = omega arith in
     let e = ap (λ ys. length (filter (keeps mask) ys)) (take_all _ xs h) in
     (omega arith, refl)

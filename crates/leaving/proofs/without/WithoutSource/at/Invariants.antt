@@ -4,6 +4,6 @@ use Rattle.leaving.proofs.without.WithoutSource.at.Given as goal
 
 abbrev pub invariant-loop-seen : goal.invariant-loop-seen
 invariant-loop-seen g l =
-    (l.passed ≤ l.place) × (l.passed ≤ l.-seen)
-    × (g.S.Source.onward l.self.below.now l.position ≡ drop l.-seen (g.S.Source.operations l.self.below.now))
-    × (l.passed ≡ length (filter (keeps l.self.mask) (take l.-seen (g.S.Source.operations l.self.below.now))))
+    (l.passed ≤ l.place) × (l.passed ≤ l._seen)
+    × (g.S.Source.onward l.self.below.now l.position ≡ drop l._seen (g.S.Source.operations l.self.below.now))
+    × (l.passed ≡ length (filter (keeps l.self.mask) (take l._seen (g.S.Source.operations l.self.below.now))))

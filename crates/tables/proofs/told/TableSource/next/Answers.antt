@@ -4,8 +4,8 @@ use Rattle.operations.specs.Rooms.{held}
 use Rattle.operations.proofs.Places.{nth_within, nth_drop}
 use Rattle.tables.proofs.told.TableSource.next.Goals as goal
 
-pub overflow-add-result : goal.overflow-add-result
-overflow-add-result g c =
+pub overflow_add-result : goal.overflow_add-result
+overflow_add-result g c =
     let rows = c.args.self.now.rows in
     let within = nth_within (held rows) c.args.position c.in-Ok.operation.row c.in-Ok.ensures in
     omega (arith, rows.few, rows.items.ok.0)

@@ -14,9 +14,9 @@ returns c =
       | in-Read w ↦ ap (λ p. p.1.now) w.sort-is ∙ sym (ap bytes_of w.in-Read.is)
       | in-Write w ↦ ap (λ p. p.1.now) w.sort-is ∙ sym (ap bytes_of w.in-Write.is)
     ] in
-    let bay = and_mask (c.word-at-head.result / 16777216) 6 in
-    let cabinet = and_mask (c.word-at-head.result / 262144) 6 in
-    let pattern = and_mask c.word-at-head.result 18 in
-    let start = and_mask c.word-at.result 30 in
-    let finish = and_mask c.word-at-2.result 30 in
+    let bay = and_mask (c.word_at-head.result / 16777216) 6 in
+    let cabinet = and_mask (c.word_at-head.result / 262144) 6 in
+    let pattern = and_mask c.word_at-head.result 18 in
+    let start = and_mask c.word_at.result 30 in
+    let finish = and_mask c.word_at-2.result 30 in
     cc
