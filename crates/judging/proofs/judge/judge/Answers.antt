@@ -8,38 +8,38 @@ use Rattle.judging.proofs.Reporting.{refused_8, refused_10, refused_11, refused,
 use Rattle.judging.proofs.judge.judge.Goals as goal
 
 pub unreachable-requires : goal.unreachable-requires
-unreachable-requires g c = omega (arith, c.len-operations.ensures, c.in-default.ensures)
+unreachable-requires g c = omega (arith, c.len-operations.ensures, c.in_default.ensures)
 
-pub judge-rows-requires : goal.judge-rows-requires
-judge-rows-requires g c =
+pub judge_rows-requires : goal.judge_rows-requires
+judge_rows-requires g c =
     let source = c.args.source.now in
-    (c.if-bay-gt-LAST-BAY.false, subst AllValid (sym (c.as-slice.ensures ∙ c.in-Ok.ensures)) (g.S.Source.valid source))
+    (c.if-bay-gt-LAST_BAY.false, subst AllValid (sym (c.as_slice.ensures ∙ c.in-Ok.ensures)) (g.S.Source.valid source))
 
-pub returns-then-bay-gt-LAST-BAY : goal.returns-then-bay-gt-LAST-BAY
-returns-then-bay-gt-LAST-BAY g c = refused_8 (told g.S.Value.Kind.meaning (g.S.Source.operations c.args.source.now)) c.args.bay c.args.limit c.args.sheet.now c.if-bay-gt-LAST-BAY.true
+pub returns-then-bay-gt-LAST_BAY : goal.returns-then-bay-gt-LAST_BAY
+returns-then-bay-gt-LAST_BAY g c = refused_8 (told g.S.Value.Kind.meaning (g.S.Source.operations c.args.source.now)) c.args.bay c.args.limit c.args.sheet.now c.if-bay-gt-LAST_BAY.true
 
 pub returns-then-entries-lt-ENTRIES : goal.returns-then-entries-lt-ENTRIES
 returns-then-entries-lt-ENTRIES g c = refused_10 (told g.S.Value.Kind.meaning (g.S.Source.operations c.args.source.now)) c.args.bay c.args.limit c.args.sheet.now (omega arith) (omega arith) (omega arith) c.if-entries-lt-ENTRIES.true
 
-pub returns-then-operations-gt-MOST-OPERATIONS : goal.returns-then-operations-gt-MOST-OPERATIONS
-returns-then-operations-gt-MOST-OPERATIONS g c =
+pub returns-then-operations-gt-MOST_OPERATIONS : goal.returns-then-operations-gt-MOST_OPERATIONS
+returns-then-operations-gt-MOST_OPERATIONS g c =
     let rows = g.S.Source.operations c.args.source.now in
-    refused_11 (told g.S.Value.Kind.meaning rows) c.args.bay c.args.limit c.args.sheet.now (omega arith) (omega arith) (omega arith) (omega arith) c.len-operations.result (c.len-operations.ensures ∙ sym (length-map rows (meant g.S.Value.Kind.meaning))) c.if-operations-gt-MOST-OPERATIONS.true
+    refused_11 (told g.S.Value.Kind.meaning rows) c.args.bay c.args.limit c.args.sheet.now (omega arith) (omega arith) (omega arith) (omega arith) c.len-operations.result (c.len-operations.ensures ∙ sym (length-map rows (meant g.S.Value.Kind.meaning))) c.if-operations-gt-MOST_OPERATIONS.true
 
-pub returns-in-err-found : goal.returns-in-err-found
-returns-in-err-found g c =
+pub returns-in_err-found : goal.returns-in_err-found
+returns-in_err-found g c =
     let meaning = g.S.Value.Kind.meaning in
     let rows = g.S.Source.operations c.args.source.now in
     let short : length (told meaning rows) ≤ 512 = omega (arith, length-map rows (meant meaning), c.len-operations.ensures) in
-    let p = err_from_is_err_and c.from-residual.result c.from-residual.ensures.1 in
+    let p = err_from_is_err_and c.from_residual.result c.from_residual.ensures.1 in
     rw (p.1, p.2)
-    (refused (told meaning rows) c.args.bay c.args.limit c.args.sheet.now (omega arith) (omega arith) (omega arith) (omega arith) short c.in-err-found.field-0.0
-    (subst (λ l. RowsJudged (told meaning l) c.args.bay c.args.limit (Err c.in-err-found.field-0.0)) (c.as-slice.ensures ∙ c.in-Ok.ensures) c.in-err-found.ensures))
+    (refused (told meaning rows) c.args.bay c.args.limit c.args.sheet.now (omega arith) (omega arith) (omega arith) (omega arith) short c.in_err-found.field-0.0
+    (subst (λ l. RowsJudged (told meaning l) c.args.bay c.args.limit (Err c.in_err-found.field-0.0)) (c.as_slice.ensures ∙ c.in-Ok.ensures) c.in_err-found.ensures))
 
 pub returns : goal.returns
 returns g c =
     let meaning = g.S.Value.Kind.meaning in
     let rows = g.S.Source.operations c.args.source.now in
     let short : length (told meaning rows) ≤ 512 = omega (arith, length-map rows (meant meaning), c.len-operations.ensures) in
-    reported (told meaning rows) c.args.bay c.args.limit c.args.sheet.now (omega arith) (omega arith) (omega arith) (omega arith) short c.in-ok-found.found c.fill.new.sheet
-    (subst (λ l. RowsJudged (told meaning l) c.args.bay c.args.limit (Ok c.in-ok-found.found)) (c.as-slice.ensures ∙ c.in-Ok.ensures) c.in-ok-found.ensures) c.fill.ensures
+    reported (told meaning rows) c.args.bay c.args.limit c.args.sheet.now (omega arith) (omega arith) (omega arith) (omega arith) short c.in_ok-found.found c.fill.new.sheet
+    (subst (λ l. RowsJudged (told meaning l) c.args.bay c.args.limit (Ok c.in_ok-found.found)) (c.as_slice.ensures ∙ c.in-Ok.ensures) c.in_ok-found.ensures) c.fill.ensures

@@ -11,17 +11,17 @@ returns-in-Some g c =
 pub returns-in-Some-lowest : goal.returns-in-Some-lowest
 returns-in-Some-lowest g c =
     let bay = c.args.bay.now in
-    fails_14 (bay_operations g.V.Kind.meaning bay) bay.number Judge c.in-default.ensures c.in-Some-lowest.place c.in-Some-lowest.ensures
+    fails_14 (bay_operations g.V.Kind.meaning bay) bay.number Judge c.in_default.ensures c.in-Some-lowest.place c.in-Some-lowest.ensures
 
 pub returns-in-Some-lowest-2 : goal.returns-in-Some-lowest-2
 returns-in-Some-lowest-2 g c =
     let bay = c.args.bay.now in
-    fails_15 (bay_operations g.V.Kind.meaning bay) bay.number Judge c.in-default.ensures c.in-default-lowest.ensures c.in-Some-lowest-2.place c.in-Some-lowest-2.ensures
+    fails_15 (bay_operations g.V.Kind.meaning bay) bay.number Judge c.in_default.ensures c.in_default-lowest.ensures c.in-Some-lowest-2.place c.in-Some-lowest-2.ensures
 
 pub returns : goal.returns
 returns g c =
     let bay = c.args.bay.now in
     let ops = bay_operations g.V.Kind.meaning bay in (
-      faultless ops bay.number Judge c.in-default.ensures c.in-default-lowest.ensures c.in-default-lowest-2.ensures,
-      by_fault ops bay.number c.in-default.ensures c.in-default-lowest.ensures c.in-default-lowest-2.ensures,
+      faultless ops bay.number Judge c.in_default.ensures c.in_default-lowest.ensures c.in_default-lowest-2.ensures,
+      by_fault ops bay.number c.in_default.ensures c.in_default-lowest.ensures c.in_default-lowest-2.ensures,
     )

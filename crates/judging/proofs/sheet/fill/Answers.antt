@@ -4,7 +4,7 @@ use Rattle.judging.proofs.sheet.fill.Goals as goal
 
 pub unreachable-requires : goal.unreachable-requires
 unreachable-requires c =
-    let room = c.in-default.ensures.pushed.0 in
+    let room = c.in_default.ensures.pushed.0 in
     omega (arith, ap length c.new-entries.ensures.same, fill_room c.args.order.now c.new-entries.result.items.now c.loop-place.entries.items.now c.loop-place.place-index (omega (arith, ap length c.new-entries.ensures.same)) c.loop-place.invariant.1 (omega arith))
 
 pub loop-place-preserved : goal.loop-place-preserved

@@ -5,29 +5,29 @@ use Rattle.operations.specs.Words.{refusal_words}
 use Rattle.tables.specs.Refusals.{list_refusal}
 use Rattle.reports.specs.Accounts.{Accounted, list_refused, listed, contents, listed_bays, Listed, Leaves}
 use Rattle.reports.proofs.account.account.Goals as goal
-use Rattle.reports.proofs.account.account.Goals.{in-Some+in-ok-new+in-Ok, in-None}
+use Rattle.reports.proofs.account.account.Goals.{in-Some+in_ok-new-in-Some+in-Ok, in-None}
 
 pub returns-in-Err : goal.returns-in-Err
 returns-in-Err g c =
     let rows = held c.args.table.now.rows in let list = c.in-Some.bytes.now in
-    IfOk-weaker c.to-string.result _ _
+    IfOk-weaker c.to_string.result _ _
     (λ text told.
     let said : string_bytes text ≡ refusal_words c.refusal.result = told in
     subst (λ (l : Option (List ℕ)). Accounted g.K.Written.words rows (string_bytes text) l) (sym (ap contents c.in-Some.is))
     (list_refused list (list_refusal c.in-Err.refused) c.in-Err.ensures (said ∙ ap refusal_words c.refusal.ensures)))
-    c.to-string.ensures.ok
+    c.to_string.ensures.ok
 
 pub returns : goal.returns
 returns g c =
     let rows = held c.args.table.now.rows in let list = contents c.args.list in let bays = listed_bays c.match-list.bays in
     let opened : Listed list bays = elim c.match-list.branch [
-      | in-Some+in-ok-new+in-Ok w ↦
+      | in-Some+in_ok-new-in-Some+in-Ok w ↦
           subst (λ (l : Option (List ℕ)). Listed l bays) (sym (ap contents w.in-Some.is))
           (subst (λ (o : Option _). Listed (Some w.in-Some.bytes.now) (listed_bays o)) (sym w.bays-is) w.in-Ok.ensures)
       | in-None w ↦ subst (λ (l : Option (List ℕ)). Listed l bays) (sym (ap contents w.in-None.is)) (ap listed_bays w.bays-is)
     ] in
-    IfOk-weaker c.account-without.result _ _
+    IfOk-weaker c.account_without.result _ _
     (λ text told.
     let left : Leaves g.K.Written.words rows bays (string_bytes text) = subst (λ (bs : List ℕ). Leaves g.K.Written.words rows bs (string_bytes text)) c.listed.ensures told in
     listed list bays opened left)
-    c.account-without.ensures
+    c.account_without.ensures

@@ -3,22 +3,22 @@ use Rattle.operations.proofs.Places.{drop_nth, drop_rest, drop_none}
 use Rattle.reports.specs.Accounts.{rows_words}
 use Rattle.reports.proofs.Texts.{rows_more}
 use Rattle.reports.proofs.lines.rows_lines.Goals as goal
-use Rattle.reports.proofs.lines.rows_lines.Goals.{in-Some+in-ok-line+in-ok-push-str, in-default}
+use Rattle.reports.proofs.lines.rows_lines.Goals.{in-Some+in_ok-line+in_ok-push_str, in_default}
 
 pub loop-place-preserved : goal.loop-place-preserved
 loop-place-preserved g c =
     let onward = g.S.Source.onward c.args.source.now in let rows = g.S.Source.operations c.args.source.now in
     let i = c.loop-place.place in
     elim c.match-next.branch [
-      | in-Some+in-ok-line+in-ok-push-str w ↦
+      | in-Some+in_ok-line+in_ok-push_str w ↦
           let row = w.in-Some.step.operation.row in
           let here = sym c.loop-place.invariant.0 ∙ w.in-Some.ensures in
           let more = rows_more g.S.Value.Written.words rows i row (drop_nth rows i row _ here) in
-          let line = w.in-ok-line.ensures in
-          let pushed = rw w.in-ok-push-str.was at w.push-str.ensures.bytes in
+          let line = w.in_ok-line.ensures in
+          let pushed = rw w.in_ok-push_str.was at w.push_str.ensures.bytes in
           (ap onward w.position-is ∙ drop_rest rows i row _ here, cc)
-      | in-default w ↦
-          let none = drop_none rows i (sym c.loop-place.invariant.0 ∙ w.in-default.ensures) in
+      | in_default w ↦
+          let none = drop_none rows i (sym c.loop-place.invariant.0 ∙ w.in_default.ensures) in
           absurd (omega arith)
     ]
 

@@ -6,7 +6,7 @@ use Rattle.surveying.proofs.crane.extend.Goals as goal
 pub unreachable-requires : goal.unreachable-requires
 unreachable-requires c =
     let places = c.args.places.now in let i = c.loop-place.place-index in
-    omega (arith, ap length c.loop-place.invariant, length-append (held c.args.orders.now) (take i places), length-take-le i places (omega arith), c.requires, c.in-default.ensures.0)
+    omega (arith, ap length c.loop-place.invariant, length-append (held c.args.orders.now) (take i places), length-take-le i places (omega arith), c.requires, c.in_default.ensures.0)
 
 pub loop-place-preserved : goal.loop-place-preserved
 loop-place-preserved c =

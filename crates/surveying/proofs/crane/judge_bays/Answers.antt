@@ -9,16 +9,16 @@ use Rattle.surveying.proofs.Found.{rows_judgeable, top_more, total_more, finding
 use Rattle.surveying.proofs.Refusing.{crane_is}
 use Rattle.surveying.proofs.crane.judge_bays.Goals as goal
 
-pub returns-in-err-found : goal.returns-in-err-found
-returns-in-err-found g c =
-    let p = err_from_is_err_and c.from-residual.result c.from-residual.ensures.1 in
-    let over = c.in-err-found.ensures in
+pub returns-in_err-found : goal.returns-in_err-found
+returns-in_err-found g c =
+    let p = err_from_is_err_and c.from_residual.result c.from_residual.ensures.1 in
+    let over = c.in_err-found.ensures in
     rw (p.1, p.2) (record { bay = c.loop-number.number; inside = omega (arith, crane_is); within = omega (arith, c.loop-number.invariant.1, c.loop-number.invariant.2); over = omega (arith, over.0, c.loop-number.invariant.1, c.loop-number.invariant.2); refused = over.1 })
 
 pub keep-requires : goal.keep-requires
 keep-requires g c =
     let rows = c.args.rows.now in let ops = told g.V.Kind.meaning rows in let n = c.loop-number.number in
-    let found = c.in-ok-found.ensures in (
+    let found = c.in_ok-found.ensures in (
       omega (arith, findings_few ops n, ap length c.loop-number.invariant.3),
       omega (arith, orders_fit ops n (rows_judgeable g.V.Kind.meaning rows c.requires.1), ap length c.loop-number.invariant.4, found.writes, length-map rows (meant g.V.Kind.meaning), c.requires.0),
     )
@@ -27,8 +27,8 @@ pub loop-number-preserved : goal.loop-number-preserved
 loop-number-preserved g c =
     let rows = c.args.rows.now in let ops = told g.V.Kind.meaning rows in let n = c.loop-number.number in
     let inv = c.loop-number.invariant in
-    let found = c.in-ok-found.ensures in
-    let order = c.in-ok-found.found in (
+    let found = c.in_ok-found.ensures in
+    let order = c.in_ok-found.found in (
       top_more (judged_age ops) n c.loop-number.age order.age c.max-age.result inv.0 found.age c.max-age.ensures,
       total_more (judged_trials ops) n c.loop-number.trials order.trials inv.1 found.trials,
       omega (arith, found.within, inv.2),

@@ -7,13 +7,13 @@ use Rattle.surveying.proofs.Refusing.{crane_is}
 use Rattle.surveying.proofs.crane.judge_next.Goals as goal
 
 pub unreachable-requires : goal.unreachable-requires
-unreachable-requires g c = omega (arith, c.in-default.ensures, c.requires.1.spared.few c.args.number (omega (arith, crane_is, c.requires.0)))
+unreachable-requires g c = omega (arith, c.in_default.ensures, c.requires.1.spared.few c.args.number (omega (arith, crane_is, c.requires.0)))
 
-pub returns-in-Ok-judge-bay : goal.returns-in-Ok-judge-bay
-returns-in-Ok-judge-bay g c =
+pub returns-in-Ok-judge_bay : goal.returns-in-Ok-judge_bay
+returns-in-Ok-judge_bay g c =
     let ops = told g.V.Kind.meaning c.args.rows.now in
     let ready = judgeable_bay c.args.number (rows_judgeable g.V.Kind.meaning c.args.rows.now c.requires.1) in
-    bay_found ops c.args.number c.args.left c.in-Ok-judge-bay.found ready (c.in-Ok-judge-bay.ensures ops c.args.number c.in-Ok.ensures ready)
+    bay_found ops c.args.number c.args.left c.in-Ok-judge_bay.found ready (c.in-Ok-judge_bay.ensures ops c.args.number c.in-Ok.ensures ready)
 
 pub returns-in-Err : goal.returns-in-Err
 returns-in-Err g c =

@@ -6,10 +6,10 @@ use Rattle.surveying.proofs.Lowering.{bays_below, faults_none, faults_more, faul
 use Rattle.surveying.proofs.Refusing.{crane_is, told_inside, gathered_few, gathered_faults, refuses_12}
 use Rattle.surveying.proofs.sparing.faults.Goals as goal
 
-pub returns-in-default : goal.returns-in-default
-returns-in-default g c =
+pub returns-in_default : goal.returns-in_default
+returns-in_default g c =
     let inside : c.loop-number.number < crane_bays = omega (arith, crane_is) in
-    refuses_12 (told g.V.Kind.meaning c.args.rows.now) c.loop-number.number inside c.loop-number.invariant.0 c.in-default.ensures
+    refuses_12 (told g.V.Kind.meaning c.args.rows.now) c.loop-number.number inside c.loop-number.invariant.0 c.in_default.ensures
 
 pub loop-number-init : goal.loop-number-init
 loop-number-init g c = (λ b h. absurd (omega arith), faults_none (told g.V.Kind.meaning c.args.rows.now))

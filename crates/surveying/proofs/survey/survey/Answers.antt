@@ -7,19 +7,19 @@ use Rattle.surveying.proofs.Surveyed.{surveyed_9, surveyed_11, surveyed_refused,
 use Rattle.surveying.proofs.survey.survey.Goals as goal
 
 pub unreachable-requires : goal.unreachable-requires
-unreachable-requires g c = omega (arith, c.len-operations.ensures, c.in-default.ensures)
+unreachable-requires g c = omega (arith, c.len-operations.ensures, c.in_default.ensures)
 
 pub spare-requires : goal.spare-requires
-spare-requires g c = subst AllValid (sym (c.as-slice.ensures ∙ c.in-Ok.ensures)) (g.S.Source.valid c.args.source.now)
+spare-requires g c = subst AllValid (sym (c.as_slice.ensures ∙ c.in-Ok.ensures)) (g.S.Source.valid c.args.source.now)
 
-pub judge-bays-requires : goal.judge-bays-requires
-judge-bays-requires g c =
-    let again : c.as-slice.result.now ≡ c.as-slice-2.result.now = c.as-slice.ensures ∙ sym c.as-slice-2.ensures in
-    let long = ap length (c.as-slice-2.ensures ∙ c.in-Ok.ensures) in (
+pub judge_bays-requires : goal.judge_bays-requires
+judge_bays-requires g c =
+    let again : c.as_slice.result.now ≡ c.as_slice-2.result.now = c.as_slice.ensures ∙ sym c.as_slice-2.ensures in
+    let long = ap length (c.as_slice-2.ensures ∙ c.in-Ok.ensures) in (
       omega (arith, long, c.len-operations.ensures),
       record {
-        valid = subst AllValid (sym (c.as-slice-2.ensures ∙ c.in-Ok.ensures)) (g.S.Source.valid c.args.source.now);
-        spared = subst (λ l. Spared (told g.S.Value.Kind.meaning l)) again c.in-ok-spare.ensures;
+        valid = subst AllValid (sym (c.as_slice-2.ensures ∙ c.in-Ok.ensures)) (g.S.Source.valid c.args.source.now);
+        spared = subst (λ l. Spared (told g.S.Value.Kind.meaning l)) again c.in_ok-spare.ensures;
       },
     )
 
@@ -28,21 +28,21 @@ returns-then-limit-eq0 g c =
     let source = c.args.source.now in
     surveyed_9 g.S.Value.Kind.meaning (g.S.Source.operations source) (g.S.Source.valid source) c.args.limit _ _ (⊎_elim (λ none. inl none) (λ past. inr past.1) c.then-limit-eq0.either)
 
-pub returns-then-operations-gt-MOST-OPERATIONS : goal.returns-then-operations-gt-MOST-OPERATIONS
-returns-then-operations-gt-MOST-OPERATIONS g c =
+pub returns-then-operations-gt-MOST_OPERATIONS : goal.returns-then-operations-gt-MOST_OPERATIONS
+returns-then-operations-gt-MOST_OPERATIONS g c =
     let source = c.args.source.now in
-    surveyed_11 g.S.Value.Kind.meaning (g.S.Source.operations source) (g.S.Source.valid source) c.args.limit _ _ (omega arith) (omega arith) c.len-operations.result c.len-operations.ensures c.if-operations-gt-MOST-OPERATIONS.true
+    surveyed_11 g.S.Value.Kind.meaning (g.S.Source.operations source) (g.S.Source.valid source) c.args.limit _ _ (omega arith) (omega arith) c.len-operations.result c.len-operations.ensures c.if-operations-gt-MOST_OPERATIONS.true
 
-pub returns-in-err-spare : goal.returns-in-err-spare
-returns-in-err-spare g c =
+pub returns-in_err-spare : goal.returns-in_err-spare
+returns-in_err-spare g c =
     let source = c.args.source.now in
-    let p = err_from_is_err_and c.from-residual.result c.from-residual.ensures.1 in
+    let p = err_from_is_err_and c.from_residual.result c.from_residual.ensures.1 in
     rw (p.1, p.2)
-    (surveyed_refused g.S.Value.Kind.meaning (g.S.Source.operations source) (g.S.Source.valid source) c.args.limit _ _ (omega arith) (omega arith) (omega (arith, c.len-operations.ensures)) c.as-slice.result.now (c.as-slice.ensures ∙ c.in-Ok.ensures) c.in-err-spare.field-0.0 c.in-err-spare.ensures)
+    (surveyed_refused g.S.Value.Kind.meaning (g.S.Source.operations source) (g.S.Source.valid source) c.args.limit _ _ (omega arith) (omega arith) (omega (arith, c.len-operations.ensures)) c.as_slice.result.now (c.as_slice.ensures ∙ c.in-Ok.ensures) c.in_err-spare.field-0.0 c.in_err-spare.ensures)
 
 pub returns : goal.returns
 returns g c =
     let source = c.args.source.now in
-    let again : c.as-slice.result.now ≡ c.as-slice-2.result.now = c.as-slice.ensures ∙ sym c.as-slice-2.ensures in
-    surveyed_judged g.S.Value.Kind.meaning (g.S.Source.operations source) (g.S.Source.valid source) c.args.limit _ _ (omega arith) (omega arith) (omega (arith, c.len-operations.ensures)) c.as-slice-2.result.now (c.as-slice-2.ensures ∙ c.in-Ok.ensures) c.judge-bays.result
-    (subst (λ l. Spared (told g.S.Value.Kind.meaning l)) again c.in-ok-spare.ensures) c.judge-bays.ensures
+    let again : c.as_slice.result.now ≡ c.as_slice-2.result.now = c.as_slice.ensures ∙ sym c.as_slice-2.ensures in
+    surveyed_judged g.S.Value.Kind.meaning (g.S.Source.operations source) (g.S.Source.valid source) c.args.limit _ _ (omega arith) (omega arith) (omega (arith, c.len-operations.ensures)) c.as_slice-2.result.now (c.as_slice-2.ensures ∙ c.in-Ok.ensures) c.judge_bays.result
+    (subst (λ l. Spared (told g.S.Value.Kind.meaning l)) again c.in_ok-spare.ensures) c.judge_bays.ensures

@@ -3,7 +3,7 @@ use Rattle.relations.specs.Meanings.{meant}
 use Rattle.trying.specs.Edges.{Bits, before_last, is_from}
 use Rattle.trying.proofs.Masked.{last_at, bits_none, bits_yes, bits_no}
 use Rattle.trying.proofs.edges.edges_from.Goals as goal
-use Rattle.trying.proofs.edges.edges_from.Goals.{then-read-edge, else-read-edge}
+use Rattle.trying.proofs.edges.edges_from.Goals.{then-read_edge, else-read_edge}
 
 pub loop-rank-init : goal.loop-rank-init
 loop-rank-init g c = bits_none _
@@ -16,9 +16,9 @@ loop-rank-preserved g c =
     let rank = c.loop-rank.rank in
     let small : rank ≤ 63 = omega (arith, c.requires, c.loop-rank-test.true) in
     let here : test rank ≡ c.read_edge.result = ap (λ o. not (eqb rank c.args.from) && before_last (meant m c.args.write.now.row) o) (last_at m ws rank c.index-writes-rank.result c.loop-rank-test.true c.index-writes-rank.is) ∙ sym c.read_edge.ensures in
-    elim c.if-read-edge.branch [
-      | then-read-edge w ↦ subst (Bits _ test) (sym w.mask-is) (bits_yes rank test c.loop-rank.mask c.loop-rank.invariant w.with-bit-mask.result (here ∙ w.if-read-edge.true) small w.with-bit-mask.ensures)
-      | else-read-edge w ↦ subst (Bits _ test) (sym w.mask-is) (bits_no rank test c.loop-rank.mask c.loop-rank.invariant (here ∙ w.if-read-edge.false))
+    elim c.if-read_edge.branch [
+      | then-read_edge w ↦ subst (Bits _ test) (sym w.mask-is) (bits_yes rank test c.loop-rank.mask c.loop-rank.invariant w.with_bit-mask.result (here ∙ w.if-read_edge.true) small w.with_bit-mask.ensures)
+      | else-read_edge w ↦ subst (Bits _ test) (sym w.mask-is) (bits_no rank test c.loop-rank.mask c.loop-rank.invariant (here ∙ w.if-read_edge.false))
     ]
 
 pub returns : goal.returns

@@ -18,7 +18,7 @@ loop-rank-preserved g c =
     let small : rank ≤ 63 = omega (arith, c.requires, c.loop-rank-test.true) in
     let here : test rank ≡ c.before-in-loop-rank.result = ap (λ o. before o (meant m c.args.into.now.row)) (written_at m ws rank c.index-writes-rank.result c.loop-rank-test.true c.index-writes-rank.is) ∙ sym c.before-in-loop-rank.ensures in
     elim c.if-before.branch [
-      | then-before w ↦ subst (Bits _ test) (sym w.mask-is) (bits_yes rank test c.loop-rank.mask c.loop-rank.invariant w.with-bit-mask.result (here ∙ w.if-before.true) small w.with-bit-mask.ensures)
+      | then-before w ↦ subst (Bits _ test) (sym w.mask-is) (bits_yes rank test c.loop-rank.mask c.loop-rank.invariant w.with_bit-mask.result (here ∙ w.if-before.true) small w.with_bit-mask.ensures)
       | else-before w ↦ subst (Bits _ test) (sym w.mask-is) (bits_no rank test c.loop-rank.mask c.loop-rank.invariant (here ∙ w.if-before.false))
     ]
 

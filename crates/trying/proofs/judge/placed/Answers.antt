@@ -4,8 +4,8 @@ use Rattle.gathering.specs.Gathering.{places}
 use Rattle.trying.specs.Trying.{placed}
 use Rattle.trying.proofs.judge.placed.Goals as goal
 
-pub offset-bounds-writes-ranks : goal.offset-bounds-writes-ranks
-offset-bounds-writes-ranks g c = omega (arith, c.requires.1 c.loop-i.i c.loop-i-test.true)
+pub offset_bounds-writes-ranks : goal.offset_bounds-writes-ranks
+offset_bounds-writes-ranks g c = omega (arith, c.requires.1 c.loop-i.i c.loop-i-test.true)
 
 pub bounds-writes-ranks : goal.bounds-writes-ranks
 bounds-writes-ranks g c = c.requires.1 c.loop-i.i c.loop-i-test.true

@@ -5,10 +5,10 @@ use Rattle.judging.specs.Tables.{Bits}
 use Rattle.judging.proofs.Gathered.{bay_count}
 use Rattle.judging.proofs.Tabled.{bits_none, bits_yes, bits_no}
 use Rattle.judging.proofs.bay.Bay.edges_from.Goals as goal
-use Rattle.judging.proofs.bay.Bay.edges_from.Goals.{then-read-edge, else-read-edge}
+use Rattle.judging.proofs.bay.Bay.edges_from.Goals.{then-read_edge, else-read_edge}
 
-pub read-edge-requires : goal.read-edge-requires
-read-edge-requires g c = (c.requires.0, (c.requires.1, omega (arith, bay_count c.args.self.now)))
+pub read_edge-requires : goal.read_edge-requires
+read_edge-requires g c = record { spans_in = c.requires.spans_in; from_in_bounds = (c.requires.from_in_bounds, omega (arith, bay_count c.args.self.now)) }
 
 pub loop-into-init : goal.loop-into-init
 loop-into-init g c = bits_none _
@@ -19,9 +19,9 @@ loop-into-preserved g c =
     let test = λ (into : ℕ). read_edge (bay_operations g.V.Kind.meaning bay) (get_or (bay_writes bay) c.args.from 0) (get_or (bay_writes bay) into 0) in
     let into = c.loop-into.into in
     let small : into ≤ 63 = omega (arith, bay.few) in
-    elim c.if-read-edge.branch [
-      | then-read-edge w ↦ subst (Bits _ test) (sym w.mask-is) (bits_yes into test c.loop-into.mask c.loop-into.invariant w.with-bit-mask.result (sym c.read_edge.ensures ∙ w.if-read-edge.true) small w.with-bit-mask.ensures)
-      | else-read-edge w ↦ subst (Bits _ test) (sym w.mask-is) (bits_no into test c.loop-into.mask c.loop-into.invariant (sym c.read_edge.ensures ∙ w.if-read-edge.false))
+    elim c.if-read_edge.branch [
+      | then-read_edge w ↦ subst (Bits _ test) (sym w.mask-is) (bits_yes into test c.loop-into.mask c.loop-into.invariant w.with_bit-mask.result (sym c.read_edge.ensures ∙ w.if-read_edge.true) small w.with_bit-mask.ensures)
+      | else-read_edge w ↦ subst (Bits _ test) (sym w.mask-is) (bits_no into test c.loop-into.mask c.loop-into.invariant (sym c.read_edge.ensures ∙ w.if-read_edge.false))
     ]
 
 pub returns : goal.returns

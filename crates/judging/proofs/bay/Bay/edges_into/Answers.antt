@@ -5,10 +5,10 @@ use Rattle.judging.specs.Tables.{Bits}
 use Rattle.judging.proofs.Gathered.{bay_count}
 use Rattle.judging.proofs.Tabled.{bits_none, bits_yes, bits_no}
 use Rattle.judging.proofs.bay.Bay.edges_into.Goals as goal
-use Rattle.judging.proofs.bay.Bay.edges_into.Goals.{then-write-edge, else-write-edge}
+use Rattle.judging.proofs.bay.Bay.edges_into.Goals.{then-write_edge, else-write_edge}
 
-pub write-edge-requires : goal.write-edge-requires
-write-edge-requires g c = (c.requires.0, (omega (arith, bay_count c.args.self.now), c.requires.1))
+pub write_edge-requires : goal.write_edge-requires
+write_edge-requires g c = record { spans_in = c.requires.spans_in; from_in_bounds = (omega (arith, bay_count c.args.self.now), c.requires.into_in_bounds) }
 
 pub loop-from-init : goal.loop-from-init
 loop-from-init g c = bits_none _
@@ -19,9 +19,9 @@ loop-from-preserved g c =
     let test = λ (from : ℕ). write_edge (bay_operations g.V.Kind.meaning bay) (get_or (bay_writes bay) from 0) (get_or (bay_writes bay) c.args.into 0) in
     let from = c.loop-from.from in
     let small : from ≤ 63 = omega (arith, bay.few) in
-    elim c.if-write-edge.branch [
-      | then-write-edge w ↦ subst (Bits _ test) (sym w.mask-is) (bits_yes from test c.loop-from.mask c.loop-from.invariant w.with-bit-mask.result (sym c.write_edge.ensures ∙ w.if-write-edge.true) small w.with-bit-mask.ensures)
-      | else-write-edge w ↦ subst (Bits _ test) (sym w.mask-is) (bits_no from test c.loop-from.mask c.loop-from.invariant (sym c.write_edge.ensures ∙ w.if-write-edge.false))
+    elim c.if-write_edge.branch [
+      | then-write_edge w ↦ subst (Bits _ test) (sym w.mask-is) (bits_yes from test c.loop-from.mask c.loop-from.invariant w.with_bit-mask.result (sym c.write_edge.ensures ∙ w.if-write_edge.true) small w.with_bit-mask.ensures)
+      | else-write_edge w ↦ subst (Bits _ test) (sym w.mask-is) (bits_no from test c.loop-from.mask c.loop-from.invariant (sym c.write_edge.ensures ∙ w.if-write_edge.false))
     ]
 
 pub returns : goal.returns

@@ -23,8 +23,8 @@ loop-place-preserved g c =
     let write = meant meaning c.write-write.result in
     let place = c.loop-place.place in
     elim c.if-reads.branch [
-      | then-reads w ↦ subst (LastRead ops _ write) (sym w.last_is) (last_yes ops write place c.loop-place.last c.loop-place.invariant (tested (λ r. reads r write) c.row.ensures c.reads.ensures w.if-reads.true) w.later.result w.later.ensures)
-      | else-reads w ↦ subst (LastRead ops _ write) (sym w.last_is) (last_no ops write place c.loop-place.last c.loop-place.invariant (tested (λ r. reads r write) c.row.ensures c.reads.ensures w.if-reads.false))
+      | then-reads w ↦ subst (LastRead ops _ write) (sym w.last-is) (last_yes ops write place c.loop-place.last c.loop-place.invariant (tested (λ r. reads r write) c.row.ensures c.reads.ensures w.if-reads.true) w.later.result w.later.ensures)
+      | else-reads w ↦ subst (LastRead ops _ write) (sym w.last-is) (last_no ops write place c.loop-place.last c.loop-place.invariant (tested (λ r. reads r write) c.row.ensures c.reads.ensures w.if-reads.false))
     ]
 
 pub returns : goal.returns
