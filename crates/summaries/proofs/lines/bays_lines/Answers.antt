@@ -9,18 +9,18 @@ use Rattle.summaries.proofs.lines.bays_lines.Goals as goal
 no_finding : Finding
 no_finding = record { bay = 0; age = 0; writes = 0 }
 
-pub split-at-requires : goal.split-at-requires
+pub split_at-requires : goal.split_at-requires
 unfolding no_finding
-split-at-requires c = omega (arith, at_drop_more all_writes c.args.findings.now c.loop-finding.finding-index no_finding c.loop-finding-test.true, c.loop-finding.invariant.1)
+split_at-requires c = omega (arith, at_drop_more all_writes c.args.findings.now c.loop-finding.finding-index no_finding c.loop-finding-test.true, c.loop-finding.invariant.1)
 
 pub loop-finding-preserved : goal.loop-finding-preserved
 unfolding no_finding
 loop-finding-preserved c =
     let findings = c.args.findings.now in let i = c.loop-finding.finding-index in let rest = c.loop-finding.rest.now in
     let whole = findings_words findings c.args.orders.now in
-    let pushed = rw c.in-ok-push-str.was at c.push-str.ensures.bytes in
-    let line = next_line findings i no_finding (string_bytes c.loop-finding.text) (string_bytes c.in-ok-line.line) c.split-at.result.0.now c.split-at.result.1.now rest whole c.loop-finding-test.true c.loop-finding.invariant.0 c.in-ok-line.ensures c.split-at.ensures.front c.split-at.ensures.back in
-    (cc, omega (arith, at_drop_more all_writes findings i no_finding c.loop-finding-test.true, c.loop-finding.invariant.1, c.split-at.ensures.back_len))
+    let pushed = rw c.in_ok-push_str.was at c.push_str.ensures.bytes in
+    let line = next_line findings i no_finding (string_bytes c.loop-finding.text) (string_bytes c.in_ok-line.line) c.split_at.result.0.now c.split_at.result.1.now rest whole c.loop-finding-test.true c.loop-finding.invariant.0 c.in_ok-line.ensures c.split_at.ensures.front c.split_at.ensures.back in
+    (cc, omega (arith, at_drop_more all_writes findings i no_finding c.loop-finding-test.true, c.loop-finding.invariant.1, c.split_at.ensures.back_len))
 
 pub returns : goal.returns
 returns c =

@@ -7,8 +7,8 @@ use Rattle.summaries.proofs.lines.places_text.Goals as goal
 pub loop-place-preserved : goal.loop-place-preserved
 loop-place-preserved c =
     let more = places_more c.args.places.now c.loop-place.place-index c.loop-place-test.true in
-    let word : string_bytes c.in-ok-word.word ≡ codes " " ++ decimal (get_or c.args.places.now c.loop-place.place-index 0) = c.in-ok-word.ensures.ok in
-    let pushed = rw c.in-ok-push-str.was at c.push-str.ensures.bytes in
+    let word : string_bytes c.in_ok-word.word ≡ codes " " ++ decimal (get_or c.args.places.now c.loop-place.place-index 0) = c.in_ok-word.ensures.ok in
+    let pushed = rw c.in_ok-push_str.was at c.push_str.ensures.bytes in
     cc
 
 pub returns : goal.returns

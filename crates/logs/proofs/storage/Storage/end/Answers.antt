@@ -5,8 +5,8 @@ use Rattle.logs.specs.Steps.{row}
 use Rattle.logs.proofs.Holding.{rows_pushed, pushed_rows, state_alike}
 use Rattle.logs.proofs.storage.Storage.end.Goals as goal
 
-pub invariant-of-self : goal.invariant-of-self
-invariant-of-self g c =
+pub invariant_of-self : goal.invariant_of-self
+invariant_of-self g c =
     let s = c.args.self.now in
     let f = c.free.new.self in
     let found = c.in-Some.ensures in
@@ -15,16 +15,15 @@ invariant-of-self g c =
     let many = ap (λ x. x.len) c.free.ensures.same in
     let entries = ap (λ x. length x.items.now) c.free.ensures.same in
     let p = c.in-Ok.ensures.pushed in
-    let q = pushed_rows _ _ _ _ _ p.1 p.2 p.0 in (
-      f.wide,
-      (
-        λ k. ((f.held k).0, omega (arith, (f.held k).1)),
-        (
-          rows_pushed _ _ _ _ _ p.1 p.2 p.0 f.valid (found.low, found.known, omega (arith, next, found.past), omega (arith, next, found.some, s.ticks)),
-          (f.counted, (omega (arith, q.1, p.1, many, entries, fewer, found.some, s.room), (omega (arith, next, fewer, found.some, s.ticks), tt))),
-        ),
-      ),
-    )
+    let q = pushed_rows _ _ _ _ _ p.1 p.2 p.0 in
+    record {
+      wide = f.wide;
+      held = λ k. ((f.held k).0, omega (arith, (f.held k).1));
+      valid = rows_pushed _ _ _ _ _ p.1 p.2 p.0 f.valid (found.low, found.known, omega (arith, next, found.past), omega (arith, next, found.some, s.ticks));
+      counted = f.counted;
+      room = omega (arith, q.1, p.1, many, entries, fewer, found.some, s.room);
+      ticks = omega (arith, next, fewer, found.some, s.ticks);
+    }
 
 pub returns : goal.returns
 returns g c =

@@ -5,8 +5,8 @@ use Rattle.logs.proofs.Carrying.{opened_leads}
 use Rattle.logs.proofs.Holding.{fresh_held, fresh_rows}
 use Rattle.logs.proofs.storage.Storage.new.Goals as goal
 
-pub invariant-of-result : goal.invariant-of-result
-invariant-of-result g c = (refl, (fresh_held 64 1, (fresh_rows _ _ c.new.ensures.empty, (refl, (omega arith, (omega arith, tt))))))
+pub invariant_of-result : goal.invariant_of-result
+invariant_of-result g c = record { wide = refl; held = fresh_held 64 1; valid = fresh_rows _ _ c.new.ensures.empty; counted = refl; room = omega arith; ticks = omega arith }
 
 pub returns : goal.returns
 returns g c =
