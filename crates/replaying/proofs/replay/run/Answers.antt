@@ -16,8 +16,8 @@ loop-call-init g c =
           (reached_none (survey_rule g.V.Kind.meaning) first entries c.args.script.now (state_of c.args.storage.now) (vec_items empty) c.requires.empty led),
     )
 
-pub push-reserved-requires : goal.push-reserved-requires
-push-reserved-requires g c = omega (arith, c.loop-call.invariant.1, c.loop-call.invariant.2, c.loop-call-test.true)
+pub push_reserved-requires : goal.push_reserved-requires
+push_reserved-requires g c = omega (arith, c.loop-call.invariant.1, c.loop-call.invariant.2, c.loop-call-test.true)
 
 pub loop-call-preserved : goal.loop-call-preserved
 loop-call-preserved g c =
@@ -29,14 +29,14 @@ loop-call-preserved g c =
     let before = records c.loop-call.log in
     let after = records c.step-next.result.log in
     let call = c.call-item.result in
-    let pushed = c.push-reserved.ensures in
+    let pushed = c.push_reserved.ensures in
     let index : c.loop-call.call-index ≡ length (vec_items was) = omega (arith, was.ok.0, c.loop-call.invariant.2) in
     let goes = subst (λ answer. Steps rule before after s t call answer) c.in-Some.is c.step-next.ensures in (
       pushed.capacity ∙ c.loop-call.invariant.0,
       omega (arith, pushed.capacity, c.loop-call.invariant.1),
       omega (arith, pushed.len, c.loop-call.invariant.2),
       λ first entries led recording.
-          reached_more rule first entries script s t before after call c.in-Some.answer (vec_items was) (vec_items c.push-reserved.new.self) pushed.items
+          reached_more rule first entries script s t before after call c.in-Some.answer (vec_items was) (vec_items c.push_reserved.new.self) pushed.items
           (omega (arith, index, c.loop-call-test.true)) (c.call-item.is ∙ ap (λ n. get_or script n call) index) goes (c.loop-call.invariant.3 first entries led recording),
     )
 

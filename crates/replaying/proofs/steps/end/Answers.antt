@@ -12,11 +12,11 @@ returns-in-Ok g c =
     let name = c.args.name in
     goes_on (survey_rule g.V.Kind.meaning) (state_of c.args.storage.now) (state_of c.end.new.storage) true
     (Ended name.sort name.cabinet name.begun c.args.value) answer.Ended
-    refl (λ es. refl) refl (c.in-Ok.ensures name c.in-ok-ticket.ensures)
+    refl (λ es. refl) refl (c.in-Ok.ensures name c.in_ok-ticket.ensures)
 
 pub returns-in-Err : goal.returns-in-Err
 returns-in-Err g c =
     let name = c.args.name in
     goes_on (survey_rule g.V.Kind.meaning) (state_of c.args.storage.now) (state_of c.end.new.storage) true
     (Refused (End name.sort name.cabinet name.begun c.args.value) (log_refusal c.in-Err.field-0.refusal)) (answer.Refused c.refusal.result)
-    refl (λ es. refl) (ap answer.Refused (sym c.refusal.ensures)) (c.in-Err.ensures name c.in-ok-ticket.ensures)
+    refl (λ es. refl) (ap answer.Refused (sym c.refusal.ensures)) (c.in-Err.ensures name c.in_ok-ticket.ensures)

@@ -9,19 +9,19 @@ use Rattle.replaying.proofs.ticket.Ticket.begin.Goals as goal
 pub returns-in-Ok : goal.returns-in-Ok
 returns-in-Ok g c =
     let s = state_of c.args.storage.now in
-    let t = state_of c.begin-read.new.storage in
+    let t = state_of c.begin_read.new.storage in
     let e = c.in-Ok.ensures in
     record {
       answer = read_begins s t c.args.sort c.args.cabinet c.args.bay c.in-Ok.ticket c.in-Read.is e.answer;
       life = subst (λ k. Carries true s (begin_event tick_of k c.args.cabinet c.args.bay (Ok (Read c.in-Ok.ticket))) t) (sym c.in-Read.is) e.life;
     }
 
-pub returns-in-Ok-begin-write : goal.returns-in-Ok-begin-write
-returns-in-Ok-begin-write g c =
+pub returns-in-Ok-begin_write : goal.returns-in-Ok-begin_write
+returns-in-Ok-begin_write g c =
     let s = state_of c.args.storage.now in
-    let t = state_of c.begin-write.new.storage in
-    let e = c.in-Ok-begin-write.ensures in
+    let t = state_of c.begin_write.new.storage in
+    let e = c.in-Ok-begin_write.ensures in
     record {
-      answer = write_begins s t c.args.sort c.args.cabinet c.args.bay c.in-Ok-begin-write.ticket c.in-Write.is e.answer;
-      life = subst (λ k. Carries true s (begin_event tick_of k c.args.cabinet c.args.bay (Ok (Write c.in-Ok-begin-write.ticket))) t) (sym c.in-Write.is) e.life;
+      answer = write_begins s t c.args.sort c.args.cabinet c.args.bay c.in-Ok-begin_write.ticket c.in-Write.is e.answer;
+      life = subst (λ k. Carries true s (begin_event tick_of k c.args.cabinet c.args.bay (Ok (Write c.in-Ok-begin_write.ticket))) t) (sym c.in-Write.is) e.life;
     }
