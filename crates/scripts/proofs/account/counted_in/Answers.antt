@@ -3,7 +3,7 @@ use Rattle.replaying.specs.declared.answer.Answer.TheVariants.{Begun}
 use Rattle.scripts.specs.Accounts.{count, is_begun, is_ended, is_lost}
 use Rattle.scripts.proofs.Texts.{counted_more, counted_none}
 use Rattle.scripts.proofs.account.counted_in.Goals as goal
-use Rattle.scripts.proofs.account.counted_in.Goals.{in-Begun, in-Ended, in-Lost, in-default}
+use Rattle.scripts.proofs.account.counted_in.Goals.{in-Begun, in-Ended, in-Lost, in_default}
 
 pub loop-answer-preserved : goal.loop-answer-preserved
 loop-answer-preserved c =
@@ -19,8 +19,8 @@ loop-answer-preserved c =
       | in-Lost w ↦
           let here = counted_more answers i _ _ c.loop-answer-test.true w.in-Lost.is in
           (omega (arith, c.loop-answer.invariant, here.begins, w.begins-is), omega (arith, c.loop-answer.invariant, here.ends, w.ends-is), omega (arith, c.loop-answer.invariant, here.losses, w.losses-is), omega (arith, c.loop-answer.invariant, w.begins-is, w.ends-is, w.losses-is))
-      | in-default w ↦
-          let none = counted_none answers i (Begun 0) _ c.loop-answer-test.true refl w.in-default.not-Begun w.in-default.not-Ended w.in-default.not-Lost in
+      | in_default w ↦
+          let none = counted_none answers i (Begun 0) _ c.loop-answer-test.true refl w.in_default.not-Begun w.in_default.not-Ended w.in_default.not-Lost in
           (omega (arith, c.loop-answer.invariant, none, w.begins-is), omega (arith, c.loop-answer.invariant, none, w.ends-is), omega (arith, c.loop-answer.invariant, none, w.losses-is), omega (arith, c.loop-answer.invariant, w.begins-is, w.ends-is, w.losses-is))
     ]
 

@@ -3,7 +3,7 @@ use Rattle.replaying.specs.declared.answer.Answer.TheVariants.{Begun}
 use Rattle.scripts.specs.Accounts.{lines_words}
 use Rattle.scripts.proofs.Texts.{lines_none, lines_more, lines_same}
 use Rattle.scripts.proofs.account.lines_text.Goals as goal
-use Rattle.scripts.proofs.account.lines_text.Goals.{in-Some+in-ok-line+in-ok-push-str, in-default}
+use Rattle.scripts.proofs.account.lines_text.Goals.{in-Some+in_ok-line+in_ok-push_str, in_default}
 
 pub loop-place-init : goal.loop-place-init
 loop-place-init g c = c.new-text.ensures.bytes ∙ sym (lines_none g.V.Written.words c.args.calls.now)
@@ -15,15 +15,15 @@ loop-place-preserved g c =
     let answers = c.args.answers.now in
     let i = c.loop-place.place in
     elim c.match-get.branch [
-      | in-Some+in-ok-line+in-ok-push-str w ↦
+      | in-Some+in_ok-line+in_ok-push_str w ↦
           let found = w.in-Some.ensures.lookup in
           let more = lines_more words calls answers i w.in-Some.call.now (Begun 0) found.3.0 c.loop-place-test.true in
-          let line = w.in-ok-line.ensures in
-          let pushed = rw w.in-ok-push-str.was at w.push-str.ensures.bytes in
+          let line = w.in_ok-line.ensures in
+          let pushed = rw w.in_ok-push_str.was at w.push_str.ensures.bytes in
           let call = found.1 in
           cc
-      | in-default w ↦
-          let same = lines_same words calls answers i w.in-default.ensures.lookup.3 in
+      | in_default w ↦
+          let same = lines_same words calls answers i w.in_default.ensures.lookup.3 in
           cc
     ]
 

@@ -3,16 +3,16 @@ use Rattle.std.proofs.lemmas.Result.{IfOk-weaker}
 use Rattle.scripts.proofs.Texts.{stop_at, no_stop}
 use Rattle.scripts.proofs.account.stop_text.Goals as goal
 
-pub returns-in-ok-call : goal.returns-in-ok-call
-returns-in-ok-call g c =
+pub returns-in_ok-call-in-Some : goal.returns-in_ok-call-in-Some
+returns-in_ok-call-in-Some g c =
     let words = g.V.Written.words in
     let found = c.in-Some.ensures.lookup in
     let at = stop_at words c.args.calls.now c.args.answered c.in-Some.call.now found.3.0 in
-    let call = c.in-ok-call.ensures in
+    let call = c.in_ok-call-in-Some.ensures in
     let same = found.1 in
     IfOk-weaker c.format.result _ _
     (λ text e.
-    let said : string_bytes text ≡ codes "stopped at " ++ (string_bytes c.in-ok-call.call ++ codes "\n") = e in
+    let said : string_bytes text ≡ codes "stopped at " ++ (string_bytes c.in_ok-call-in-Some.call ++ codes "\n") = e in
     cc)
     c.format.ensures.ok
 

@@ -8,8 +8,8 @@ loop-number-preserved c =
     let numbers = c.args.numbers.now in
     let i = c.loop-number.number-index in
     let more = numbers_more numbers i 0 c.loop-number-test.true in
-    let word : string_bytes c.in-ok-word.word ≡ codes " " ++ decimal (get_or numbers i 0) = c.in-ok-word.ensures.ok in
-    let pushed = rw c.in-ok-push-str.was at c.push-str.ensures.bytes in
+    let word : string_bytes c.in_ok-word.word ≡ codes " " ++ decimal (get_or numbers i 0) = c.in_ok-word.ensures.ok in
+    let pushed = rw c.in_ok-push_str.was at c.push_str.ensures.bytes in
     cc
 
 pub returns : goal.returns
