@@ -57,7 +57,7 @@ def main():
             words.setdefault(word, set()).add(path)
     for name, new in sorted(turned.items()):
         if new in words:
-            print(f"together: {name} and {new} in {sorted(words[new] & words[name])[:4]}, of {len(words[new])}")
+            print(f"together: {name} and {new} in {sorted(words[new] & words.get(name, set()))[:4]}, of {len(words[new])}")
     back = {}
     for name, new in turned.items():
         back.setdefault(new, []).append(name)

@@ -1,18 +1,16 @@
 -- The checks of operations' values, from the lowest places that fail them. Assumes nothing.
 use Rattle.std.proofs.Common.{◌≡◌, ℕ, zero, suc, ◌<◌, Bool, true, false, not, ◌&&◌, ltb, ◌⊎◌, List, [], ◌∷◌, ◌++◌, length, Some, None, sym, refl, ap, ◌∙◌, inl, inr, arith}
-use Rattle.std.proofs.lemmas.Bool.{cases_eq, cases_order, cond-true, cond-false, and_parts, and_from, both_ways, eq-eqb, ltb-true, not-false, lt-ltb}
+use Rattle.std.proofs.lemmas.Bool.{cases_eq, cases_order, cond-true, cond-false, and_parts, and_from, both_ways, eq-eqb, not-false}
 use Rattle.operations.specs.Checks.{first_failed, each_below}
 use Rattle.operations.specs.Refusals.{refusal}
 use Rattle.operations.specs.declared.refusal.Layer.{Layer}
 use Rattle.operations.proofs.Checks.{passed_then, failed_then}
 use Rattle.orders.specs.Claims.{Judgeable}
 use Rattle.orders.specs.Orders.{Operation, at, alike, before, write_of, among, Timed, Distinct, Sourced, Unforeseen}
-use Rattle.orders.specs.Places.{some}
 use Rattle.orders.proofs.Counts.{is_some, some_is}
-use Rattle.orders.proofs.Operations.{alike_join, below_among, write_of_le, write_of_is}
+use Rattle.orders.proofs.Operations.{alike_join, below_among, write_of_le}
 use Rattle.bays.specs.Faults.{written_twice, unwritten, foreseen, faulty, fault_checks, value_checks, Lowest}
 use Rattle.bays.proofs.Faulty.{part_true}
-use Rattle.bays.proofs.Passing.{none_some}
 
 module _ {E : Type 0} (test : ℕ → Bool) (told : ℕ → E) where
   -- one check a place: they all pass,

@@ -3,7 +3,7 @@
 
 mod acts;
 mod faults;
-mod orders;
+mod lawful;
 mod outcomes;
 mod run_ups;
 mod sequences;

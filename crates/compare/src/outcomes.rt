@@ -1,7 +1,7 @@
 // What is said of a bay, by the definitions and by the judge.
 use crate::acts::{Act, BAY, table};
 use crate::faults::{Fault, lowest};
-use crate::orders::least_age;
+use crate::lawful::least_age;
 use crate::run_ups::find;
 use crate::sequences::Sequence;
 use judging::judge::judge;

@@ -1,5 +1,5 @@
 -- The lowest place that passes a test, one place more at a time. Assumes nothing.
-use Rattle.std.proofs.Common.{◌≡◌, ℕ, ◌+◌, ◌<◌, Bool, true, false, ◌⊎◌, Some, None, Option, sym, ap, ◌∙◌, inl, inr, arith, below_more}
+use Rattle.std.proofs.Common.{◌≡◌, ℕ, ◌+◌, ◌<◌, Bool, true, false, Some, None, Option, sym, ◌∙◌, arith, below_more}
 use Rattle.std.specs.Option.{option_or}
 use Rattle.bays.specs.Faults.{Lowest}
 

@@ -1,5 +1,5 @@
 -- The writes of a bay as their reads leave them, one operation more at a time. Assumes nothing.
-use Rattle.std.proofs.Common.{◌≡◌, ℕ, ◌+◌, ◌<◌, ◌≤◌, min, Bool, true, false, not, ◌&&◌, ◌⊎◌, List, length, get_or, take, set, Some, None, Option, sym, refl, ap, ◌∙◌, subst, inl, inr, arith}
+use Rattle.std.proofs.Common.{◌≡◌, ℕ, ◌+◌, ◌<◌, min, Bool, true, false, not, ◌&&◌, ◌⊎◌, List, length, get_or, set, Some, None, Option, sym, refl, ap, ◌∙◌, subst, inl, inr, arith}
 use Rattle.std.proofs.lemmas.List.{length-map, length-set, get_or-map, get_or-set_same, get_or-set_other, map-set, set-get_or}
 use Rattle.std.proofs.lemmas.Bool.{cases_eq, both_ways, and_from, eq-eqb}
 use Rattle.operations.specs.declared.row.Row.{Row}
@@ -11,7 +11,7 @@ use Rattle.bays.specs.Writes.{write_places}
 use Rattle.bays.proofs.Ranks.{place_writes, places_apart}
 use Rattle.gathering.specs.declared.write.Write.{Write}
 use Rattle.gathering.specs.Gathering.{places, finished, LastRead, told_read, AsLeft, Wrote, Seen}
-use Rattle.gathering.specs.Writes.{written, same_value, read_by}
+use Rattle.gathering.specs.Writes.{same_value, read_by}
 use Rattle.gathering.proofs.Lows.{lowest_as}
 use Rattle.gathering.proofs.Spanned.{soonest_no, soonest_yes, last_no, last_yes}
 

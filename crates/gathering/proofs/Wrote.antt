@@ -1,5 +1,5 @@
 -- The writes of a bay, one operation more at a time. Assumes nothing.
-use Rattle.std.proofs.Common.{◌≡◌, ℕ, ◌+◌, ◌<◌, ◌≤◌, Bool, true, false, ◌&&◌, ltb, List, [], ◌∷◌, ◌++◌, length, get_or, is_some, Some, None, Option, sym, refl, ap, ◌∙◌, subst, add-one, arith}
+use Rattle.std.proofs.Common.{◌≡◌, ℕ, ◌+◌, ◌<◌, ◌≤◌, Bool, true, false, ◌&&◌, List, [], ◌∷◌, ◌++◌, length, get_or, is_some, Some, None, Option, sym, refl, ap, ◌∙◌, subst, add-one, arith}
 use mathlib.Core.Bool.{and_comm}
 use Rattle.std.specs.Option.{option_or}
 use Rattle.std.proofs.lemmas.List.{length-map, length_push, get_or-map, map_push}
@@ -14,7 +14,7 @@ use Rattle.bays.specs.Writes.{passing}
 use Rattle.bays.proofs.Faulty.{twice_ranked, twice_not}
 use Rattle.bays.proofs.Passing.{passing_yes, passing_no, passing_length, tally_rising}
 use Rattle.gathering.specs.declared.write.Write.{Write}
-use Rattle.gathering.specs.Gathering.{places, Wrote}
+use Rattle.gathering.specs.Gathering.{Wrote}
 use Rattle.gathering.specs.Writes.{written, same_value}
 use Rattle.gathering.proofs.Lows.{lowest_yes, lowest_no, lowest_as}
 

@@ -3,7 +3,7 @@ use Rattle.std.specs.Prelude.{◌≡◌, ℕ, ◌<◌, ◌≤◌, Bool, cond, no
 use Rattle.operations.specs.Checks.{first_failed}
 use Rattle.operations.specs.declared.refusal.Layer.TheVariants.{Judge}
 use Rattle.operations.specs.Refusals.{refusal}
-use Rattle.orders.specs.Orders.{Operation, Lawful, LeastAge, largest_age, at, of_bay, writes, write_count, bay_graph}
+use Rattle.orders.specs.Orders.{Operation, Lawful, LeastAge, largest_age, at, of_bay, write_count, bay_graph}
 use Rattle.orders.specs.Places.{some}
 use Rattle.orders.specs.RunUps.{Tried, ValueOrder}
 use Rattle.judging.specs.declared.judgment.Judgment.{Judgment}

@@ -1,5 +1,5 @@
 -- Calls of a script with their answers. Assumes nothing.
-use Rattle.std.proofs.Common.{◌≡◌, ℕ, Bool, true, false, List, [], ◌∷◌, Ok, Err, Option, Result, sym, refl, ap, ◌∙◌, subst, inl, inr, arith}
+use Rattle.std.proofs.Common.{◌≡◌, ℕ, Bool, false, List, ◌∷◌, Ok, Err, Option, Result, sym, refl, ap, ◌∙◌, inl, inr, arith}
 use Rattle.operations.specs.Refusals.{no_bay}
 use Rattle.operations.specs.declared.refusal.Refusal.{Refusal}
 use Rattle.surveying.specs.declared.report.Report.{Report}

@@ -1,10 +1,9 @@
 -- A script run call by call. Assumes nothing.
-use Rattle.std.proofs.Common.{◌≡◌, ℕ, ◌+◌, ◌<◌, ◌≤◌, Bool, true, false, List, [], ◌∷◌, ◌++◌, map, reverse, length, get_or, take, None, sym, refl, ap, ◌∙◌, subst, arith, length-append}
+use Rattle.std.proofs.Common.{◌≡◌, ℕ, ◌+◌, ◌<◌, ◌≤◌, Bool, true, List, [], ◌∷◌, ◌++◌, map, reverse, length, get_or, take, None, sym, refl, ap, ◌∙◌, subst, arith, length-append}
 use mathlib.Core.List.{reverse-cons}
 use Rattle.std.proofs.lemmas.List.{take_more, map-append, get_or_default}
-use Rattle.lives.specs.Calls.{Event, call_of}
+use Rattle.lives.specs.Calls.{call_of}
 use Rattle.lives.specs.Life.{SurveyRuleOf, any_answer}
-use Rattle.lives.specs.Words.{recording}
 use Rattle.lives.proofs.Law.{lives_lawful}
 use Rattle.logs.specs.Stands.{Leads}
 use Rattle.logs.specs.States.{State, opened_at}

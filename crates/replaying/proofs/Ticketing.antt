@@ -1,5 +1,5 @@
 -- Tickets of either sort, from this log and from others. Assumes nothing.
-use Rattle.std.proofs.Common.{◌≡◌, ℕ, ◌<◌, min, true, false, ltb, leb, get_or, replicate, Some, None, Ok, sym, refl, ap, ◌∙◌, subst, arith}
+use Rattle.std.proofs.Common.{◌≡◌, ℕ, true, false, Some, None, Ok, sym, ap, ◌∙◌, subst, arith}
 use Rattle.std.proofs.lemmas.Bool.Decides.{nat_tests}
 use Rattle.operations.specs.Checks.{first_failed}
 use Rattle.operations.specs.declared.row.Sort.{Sort}
@@ -9,7 +9,6 @@ use Rattle.lives.specs.declared.refusal.LogRefusal.{LogRefusal}
 use Rattle.logs.specs.Cabinets.{is_idle}
 use Rattle.logs.specs.States.{State, opened_at}
 use Rattle.logs.specs.Steps.{read_ticket, write_ticket, open_refusal, begin_refusal, Begins}
-use Rattle.logs.specs.declared.cabinet.Cabinet.TheVariants.{Idle}
 use Rattle.logs.specs.declared.read_ticket.ReadTicket.{ReadTicket}
 use Rattle.logs.specs.declared.write_ticket.WriteTicket.{WriteTicket}
 use Rattle.logs.proofs.Holding.{idle_replicate}

@@ -1,5 +1,5 @@
 -- What running a script comes to. Assumes nothing.
-use Rattle.std.specs.Prelude.{◌≡◌, ℕ, ◌<◌, ◌≤◌, Bool, true, false, ◌&&◌, List, [], ◌∷◌, ◌++◌, map, reverse, length, take, Some, None, Ok, Err, Option, Result, slice_index_or}
+use Rattle.std.specs.Prelude.{◌≡◌, ℕ, ◌<◌, ◌≤◌, Bool, true, false, ◌&&◌, List, ◌∷◌, ◌++◌, map, reverse, length, take, Some, None, Ok, Err, Option, Result, slice_index_or}
 use Rattle.lives.specs.Calls.{Call as LifeCall, Report, Event, Surveyed, call_of}
 use Rattle.lives.specs.Life.{SurveyRuleOf, Life, Law, Answers, allowed}
 use Rattle.lives.specs.Words.{recording}

@@ -1,5 +1,5 @@
 -- What the lines of a script say. Assumes nothing.
-use Rattle.std.specs.Prelude.{◌≡◌, ℕ, Bool, true, false, List, [], ◌∷◌, ◌++◌, codes, decimal, ◌==◌}
+use Rattle.std.specs.Prelude.{◌≡◌, ℕ, Bool, true, List, [], ◌∷◌, ◌++◌, codes, decimal, ◌==◌}
 use Rattle.values.specs.Words.{serial_words}
 use Rattle.scripts.specs.Words.{call_words}
 use Rattle.scripts.specs.declared.line.Line.{Line}

@@ -4,7 +4,7 @@ use Rattle.std.proofs.lemmas.Bool.{cases_lt, cases_Bool, cond-true, cond-false, 
 use Rattle.orders.specs.Claims.{Judgeable}
 use Rattle.orders.specs.Listing.{tried_age, tried_trials, tried_order}
 use Rattle.orders.specs.Orders.{Operation, at, of_bay, whole, writes, write_count, write_of, bay_graph, Sourced}
-use Rattle.orders.specs.Places.{bit, some, times}
+use Rattle.orders.specs.Places.{bit, times}
 use Rattle.orders.specs.RunUps.{Tried}
 use Rattle.orders.proofs.Counts.{is_some}
 use Rattle.orders.proofs.Growing.{member_writes}

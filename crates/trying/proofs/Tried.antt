@@ -1,12 +1,12 @@
 -- What the search over masks says of the bay's writes. Assumes nothing.
-use Rattle.std.proofs.Common.{◌≡◌, ℕ, ◌<◌, ◌≤◌, true, cond, List, [], length, get_or, take, Ok, Err, Result, sym, refl, ap, ◌∙◌, subst, arith, MatchResult}
+use Rattle.std.proofs.Common.{◌≡◌, ℕ, ◌<◌, ◌≤◌, cond, List, [], length, get_or, take, Ok, Err, Result, sym, refl, ap, ◌∙◌, subst, arith}
 use Rattle.std.proofs.lemmas.List.{get_or-take, length-take-le}
 use Rattle.masks.specs.Masks.{has_bit}
 use Rattle.operations.specs.Rooms.{held}
 use Rattle.orders.specs.Claims.{Judgeable}
 use Rattle.orders.specs.Orders.{Operation, of_bay, write_count, bay_graph, Distinct}
-use Rattle.orders.specs.RunUps.{Tried, TrialsUpTo, NoneBelow, NoneFor}
-use Rattle.bays.specs.Verdicts.{has_read, BayJudged, idle, tried, Overrun}
+use Rattle.orders.specs.RunUps.{Tried}
+use Rattle.bays.specs.Verdicts.{BayJudged, idle, tried, Overrun}
 use Rattle.bays.specs.Writes.{write_places}
 use Rattle.bays.proofs.Ages.{overrun, some_order}
 use Rattle.bays.proofs.Ranks.{places_count, places_rising, place_writes, write_listed}

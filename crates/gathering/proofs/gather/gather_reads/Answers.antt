@@ -1,4 +1,4 @@
-use Rattle.std.proofs.Common.{◌≡◌, ℕ, ◌+◌, ◌<◌, List, length, sym, ◌∙◌, subst, subst₂, arith}
+use Rattle.std.proofs.Common.{◌≡◌, ◌+◌, ◌<◌, length, sym, ◌∙◌, subst, arith}
 use Rattle.operations.specs.Rooms.{held}
 use Rattle.relations.specs.Meanings.{told}
 use Rattle.relations.proofs.Told.{told_at, told_length}

@@ -1,4 +1,4 @@
-use Rattle.std.proofs.Common.{◌≡◌, List, length, get_or, set, Some, None, refl, ap, ◌∙◌, subst}
+use Rattle.std.proofs.Common.{length, get_or, set, Some, None, refl, ap, ◌∙◌, subst}
 use Rattle.bays.specs.Faults.{Lowest}
 use Rattle.operations.specs.Rooms.{held}
 use Rattle.gathering.specs.Writes.{same_value}

@@ -1,4 +1,4 @@
-use Rattle.std.proofs.Common.{◌≡◌, ◌<◌, ◌≤◌, true, length, get_or, vec_items, sym, ap, ◌∙◌, subst, arith}
+use Rattle.std.proofs.Common.{◌≡◌, length, get_or, vec_items, sym, ap, ◌∙◌, subst, arith}
 use Rattle.logs.specs.States.{state_of}
 use Rattle.replaying.specs.Runs.{Reached, Steps, records}
 use Rattle.replaying.specs.Surveys.{survey_rule}

@@ -1,4 +1,4 @@
-use Rattle.std.proofs.Common.{◌≡◌, true, false, sym, refl, subst}
+use Rattle.std.proofs.Common.{true, false, sym, refl, subst}
 use Rattle.lives.specs.Calls.{Reopened}
 use Rattle.logs.specs.States.{state_of}
 use Rattle.replaying.specs.Runs.{Goes}

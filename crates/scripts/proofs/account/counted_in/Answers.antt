@@ -1,4 +1,4 @@
-use Rattle.std.proofs.Common.{◌≡◌, ◌≤◌, length, get_or, sym, refl, ap, ◌∙◌, arith, take_all}
+use Rattle.std.proofs.Common.{◌≤◌, length, refl, ap, ◌∙◌, arith, take_all}
 use Rattle.replaying.specs.declared.answer.Answer.TheVariants.{Begun}
 use Rattle.scripts.specs.Accounts.{count, is_begun, is_ended, is_lost}
 use Rattle.scripts.proofs.Texts.{counted_more, counted_none}

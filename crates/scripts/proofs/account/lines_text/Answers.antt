@@ -1,4 +1,4 @@
-use Rattle.std.proofs.Common.{◌≡◌, ◌≤◌, length, sym, ap, ◌∙◌, arith, take_all}
+use Rattle.std.proofs.Common.{◌≤◌, length, sym, ap, ◌∙◌, arith, take_all}
 use Rattle.replaying.specs.declared.answer.Answer.TheVariants.{Begun}
 use Rattle.scripts.specs.Accounts.{lines_words}
 use Rattle.scripts.proofs.Texts.{lines_none, lines_more, lines_same}

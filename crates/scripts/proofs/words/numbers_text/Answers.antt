@@ -1,4 +1,4 @@
-use Rattle.std.proofs.Common.{◌≡◌, ◌≤◌, ◌++◌, length, get_or, string_bytes, codes, decimal, sym, ap, ◌∙◌, arith, take_all}
+use Rattle.std.proofs.Common.{◌≡◌, ◌≤◌, ◌++◌, length, get_or, string_bytes, codes, decimal, ap, ◌∙◌, arith, take_all}
 use Rattle.scripts.specs.Words.{numbers_words}
 use Rattle.scripts.proofs.Texts.{numbers_more}
 use Rattle.scripts.proofs.words.numbers_text.Goals as goal

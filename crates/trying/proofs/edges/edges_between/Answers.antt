@@ -1,5 +1,4 @@
-use Rattle.std.proofs.Common.{◌≡◌, ◌≤◌, length, sym, refl, ap, ◌∙◌, subst, arith}
-use Rattle.operations.specs.Rooms.{held}
+use Rattle.std.proofs.Common.{◌≡◌, ◌≤◌, length, sym, refl, subst, arith}
 use Rattle.trying.specs.Edges.{TablesOf}
 use Rattle.trying.proofs.Masked.{tables_more}
 use Rattle.trying.proofs.edges.edges_between.Goals as goal

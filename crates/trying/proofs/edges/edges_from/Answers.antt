@@ -1,4 +1,4 @@
-use Rattle.std.proofs.Common.{◌≡◌, ℕ, ◌≤◌, not, ◌&&◌, eqb, length, sym, ap, ◌∙◌, subst, arith}
+use Rattle.std.proofs.Common.{◌≡◌, ◌≤◌, not, ◌&&◌, eqb, length, sym, ap, ◌∙◌, subst, arith}
 use Rattle.relations.specs.Meanings.{meant}
 use Rattle.trying.specs.Edges.{Bits, before_last, is_from}
 use Rattle.trying.proofs.Masked.{last_at, bits_none, bits_yes, bits_no}

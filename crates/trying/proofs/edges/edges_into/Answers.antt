@@ -1,4 +1,4 @@
-use Rattle.std.proofs.Common.{◌≡◌, ℕ, ◌≤◌, length, sym, ap, ◌∙◌, subst, arith}
+use Rattle.std.proofs.Common.{◌≡◌, ◌≤◌, length, sym, ap, ◌∙◌, subst, arith}
 use Rattle.orders.specs.Orders.{before}
 use Rattle.relations.specs.Meanings.{meant}
 use Rattle.trying.specs.Edges.{Bits, is_into}

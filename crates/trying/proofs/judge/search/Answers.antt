@@ -1,5 +1,4 @@
 use Rattle.std.proofs.Common.{take, subst}
-use Rattle.operations.specs.Rooms.{held}
 use Rattle.searching.specs.Outcome.{Searched}
 use Rattle.trying.proofs.judge.search.Goals as goal
 

@@ -1,4 +1,4 @@
-use Rattle.std.proofs.Common.{◌≡◌, ap, ◌∙◌}
+use Rattle.std.proofs.Common.{ap, ◌∙◌}
 use Rattle.logs.specs.States.{state_of, opened_at}
 use Rattle.replaying.proofs.Ticketing.{not_issued}
 use Rattle.replaying.proofs.ticket.Ticket.mint.Goals as goal

@@ -1,4 +1,4 @@
-use Rattle.std.proofs.Common.{◌≡◌, [], vec_items, sym, refl, subst, arith, true-eqb}
+use Rattle.std.proofs.Common.{◌≡◌, [], vec_items, refl, subst, arith, true-eqb}
 use Rattle.std.proofs.lemmas.List.{nil_from_length}
 use Rattle.scripts.specs.Lines.{Says}
 use Rattle.scripts.specs.declared.line.Line.TheVariants.{Open, Storage}
