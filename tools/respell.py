@@ -18,8 +18,8 @@ TOKEN = re.compile(r"[^\s(){}\[\].,;:«»\"|]+")
 COMMENT = re.compile(r"\s*(--|//)")
 # New names that another word of the repository has already.
 TOGETHER = {"bit-and": "bit-bit_and", "bit-xor": "bit-bit_xor", "Survey-rule": "SurveyRuleOf"}
-# Words that port.py left, and a parameter.
-LEFT = {"written-twice": "written_twice", "now-recording": "now_recording"}
+# Words that port.py left, and parameters.
+LEFT = {"written-twice": "written_twice", "now-recording": "now_recording", "last-reads": "last_reads"}
 
 
 def files():

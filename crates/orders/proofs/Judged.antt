@@ -90,7 +90,7 @@ module _ (many : ℕ) where
       go false e h more = let m = more h in (inr m.0, m.1)
 
 module _ (g : Graph) (n k : ℕ) (below : Below g n) where
-  -- a run_up with as many members as there are writes is a value order
+  -- a run-up with as many members as there are writes is a value order
   pub full_order : (run : List ℕ) → RunUp g k run → length run ≡ tally n g.write → ValueOrder g k run
   full_order run r e = record { run_up = r; all = λ p w. omega (arith, ap bit w, total_tight n (λ p. times p run) (λ p. bit (g.write p)) (λ q l. r.once q) (omega (arith, length_total n run (member_below g n k below run r.once))) p (below p w)) }
 
@@ -102,11 +102,11 @@ module _ (g : Graph) (n k : ℕ) (below : Below g n) where
       one p true e = omega (arith, ap bit e, v.all p e, v.run_up.once p)
       one p false e = omega (arith, ap bit e, v.run_up.once p)
 
-  -- a listed sequence is a run_up
+  -- a listed sequence is a run-up
   listed_is : (run : List ℕ) → In run (run_ups g n k) → RunUp g k run
   listed_is run i = ((listing_holds_run_ups g n k below).0 run).0 i
 
-  -- and a run_up is listed
+  -- and a run-up is listed
   is_listed : (run : List ℕ) → RunUp g k run → In run (run_ups g n k)
   is_listed run r = ((listing_holds_run_ups g n k below).0 run).1 r
 

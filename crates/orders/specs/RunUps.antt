@@ -8,7 +8,7 @@ pub record Graph : Type 0 where
   pub write_edge : ℕ → ℕ → Bool
   pub read_edge : ℕ → ℕ → Bool
 
--- A run_up for k is a non-empty sequence of different writes of the bay. Every write with a write edge into a member stands
+-- A run-up for k is a non-empty sequence of different writes of the bay. Every write with a write edge into a member stands
 -- earlier in it. For a read edge from u to v with v standing before u, u is at most k - 1 positions after v.
 pub record RunUp (g : Graph) (k : ℕ) (run : List ℕ) : Type 0 where
   pub some : 0 < length run
@@ -16,7 +16,7 @@ pub record RunUp (g : Graph) (k : ℕ) (run : List ℕ) : Type 0 where
   pub closed : (u v : ℕ) → g.write u ≡ true → 0 < times v run → g.write_edge u v ≡ true → Earlier run u v
   pub near : (u v : ℕ) → 0 < times u run → 0 < times v run → g.read_edge u v ≡ true → Earlier run v u → position run u ≤ position run v + (k - 1)
 
--- A value order for k is a run_up with all writes of the bay.
+-- A value order for k is a run-up with all writes of the bay.
 pub record ValueOrder (g : Graph) (k : ℕ) (run : List ℕ) : Type 0 where
   pub run_up : RunUp g k run
   pub all : (p : ℕ) → g.write p ≡ true → 0 < times p run

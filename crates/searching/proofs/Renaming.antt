@@ -162,7 +162,7 @@ module _ {g h : Graph} {n : ℕ} {place : ℕ → ℕ} (r : Renamed g h n place)
           omega arith;
     }
 
-    -- every run_up of h is one of g renamed
+    -- every run-up of h is one of g renamed
     run_up_from : (q : List ℕ) → RunUp h k q → (run : List ℕ) × (q ≡ map place run) × RunUp g k run
     run_up_from q u =
         let t = unmap q (written u) in
