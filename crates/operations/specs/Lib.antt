@@ -4,3 +4,4 @@ pub mod Refusals
 pub mod Sources
 pub mod Words
 pub mod Rooms
+pub mod Passes

@@ -2,6 +2,7 @@
 ghost use Rattle.std.specs.Prelude.{◌≡◌, ◌<◌, length, MatchResult};
 ghost use Rattle.operations.specs.Rooms.{held};
 
+use crate::pass::Pass;
 use crate::room::Room;
 use crate::rooms::Full;
 use crate::row::Row;
@@ -12,10 +13,8 @@ pub fn copy<S: Source>(source: &S, room: &mut Room<Row<S::Value>>) -> Result<(),
     ensures { MatchResult result (λ _. held room.new ≡ S.Source.operations source.now) (λ _. 512 < length (S.Source.operations source.now)) }
 {
     room.clear();
-    let mut position = 0;
-    while let Some(step) = source.next(position) {
-        room.push(step.operation.row())?;
-        position = step.next;
+    for operation in Pass::over(source) {
+        room.push(operation.row())?;
     }
     Ok(())
 }

@@ -3,6 +3,7 @@
 
 pub mod copying;
 pub mod operation;
+pub mod pass;
 pub mod refusal;
 pub mod refusals;
 pub mod room;

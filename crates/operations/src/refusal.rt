@@ -1,7 +1,7 @@
 // What a refusal tells.
 
 // The part that a refusal came from. A word reader's refusal names the file that it read.
-#[derive(Clone, Copy)]
+#[derive(Clone, Copy, PartialEq)]
 pub enum Layer {
     WordsInTable,
     WordsInList,
@@ -14,7 +14,7 @@ pub enum Layer {
 }
 
 // A refusal as it is told: its number, a place and the layer that it came from.
-#[derive(Clone, Copy)]
+#[derive(Clone, Copy, PartialEq)]
 pub struct Refusal {
     pub number: u8,
     pub place: usize,
@@ -22,13 +22,13 @@ pub struct Refusal {
 }
 
 // An entry of a list of bays that is no bay.
-#[derive(Clone, Copy)]
+#[derive(Clone, Copy, PartialEq)]
 pub struct NoBay {
     pub entry: usize,
 }
 
 // A place at or past the end of a source, or of a room.
-#[derive(Clone, Copy)]
+#[derive(Clone, Copy, PartialEq)]
 pub struct PastEnd {
     pub place: usize,
 }

@@ -1,37 +1,28 @@
-// The refusals of sources and of leaving out, with their numbers.
+// The refusals of sources and of leaving out, with their numbers. A named case is a refusal by `From`, in every crate that refuses.
 ghost use Rattle.std.specs.Prelude.{◌≡◌};
 ghost use Rattle.operations.specs.Refusals.{no_bay, past_end};
-ghost use Rattle.operations.specs.declared.refusal.Refusal.{Refusal};
 
 use crate::refusal::{Layer, NoBay, PastEnd, Refusal};
 
-// What went wrong, by named cases; each has one number, place and layer.
-pub trait Refused {
-    ghost tells: { Self → Refusal };
+impl From<NoBay> for Refusal {
+    ghost from_gives = { λ refused refusal. refusal ≡ no_bay refused };
 
-    fn refusal(&self) -> Refusal
-        ensures { result ≡ tells self.now };
-}
-
-impl Refused for NoBay {
-    ghost tells = { no_bay };
-
-    fn refusal(&self) -> Refusal {
+    fn from(refused: NoBay) -> Refusal {
         Refusal {
             number: 6,
-            place: self.entry,
+            place: refused.entry,
             layer: Layer::List,
         }
     }
 }
 
-impl Refused for PastEnd {
-    ghost tells = { past_end };
+impl From<PastEnd> for Refusal {
+    ghost from_gives = { λ refused refusal. refusal ≡ past_end refused };
 
-    fn refusal(&self) -> Refusal {
+    fn from(refused: PastEnd) -> Refusal {
         Refusal {
             number: 7,
-            place: self.place,
+            place: refused.place,
             layer: Layer::Source,
         }
     }

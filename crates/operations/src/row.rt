@@ -1,7 +1,7 @@
 // Operations as plain rows.
 
 // Whether an operation reads or writes.
-#[derive(Clone, Copy)]
+#[derive(Clone, Copy, PartialEq)]
 pub enum Sort {
     Read,
     Write,

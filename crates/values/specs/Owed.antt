@@ -1,13 +1,15 @@
--- What serials and stamps owe as kinds of value: no larger number is a pattern, and each value has one. Assumes nothing.
-use Rattle.std.specs.Prelude.{◌≡◌, ℕ, ◌+◌, ◌*◌, ◌/◌, ◌^◌, ◌<◌, ◌≤◌, Bool, true, false, Some, None, nat_eq, refl}
+-- What serials and stamps owe as kinds of value: no larger number is a pattern, each value has one, and two are equal exactly when
+-- they mean the same. Assumes nothing.
+use Rattle.std.specs.Prelude.{◌≡◌, ℕ, ◌+◌, ◌*◌, ◌/◌, ◌^◌, ◌<◌, ◌≤◌, Bool, true, false, Some, None, ◌&&◌, ◌==◌, Decides, nat_eq, refl}
 use Rattle.std.proofs.Common.{ap, arith}
 use Rattle.std.proofs.Math.Path.{path_j}
+use Rattle.std.proofs.lemmas.Bool.{and_from, and_parts, eqb-true, eq-eqb}
 use Rattle.std.proofs.Math.Bridge.{le_prop}
 use Rattle.std.proofs.Math.Decide.{dec_lt}
 use Rattle.values.specs.Kinds.{Spelled}
 use Rattle.values.specs.declared.serial.Serial.{Serial}
 use Rattle.values.specs.declared.stamp.Stamp.{Stamp}
-use Rattle.values.specs.Patterns.{serial_at, serial_of, mark_of, cabinet_of, count_of, cabinet_low, count_low, stamp_at, stamp_of}
+use Rattle.values.specs.Patterns.{serial_at, serial_of, serial_meaning, mark_of, cabinet_of, count_of, cabinet_low, count_low, stamp_at, stamp_of, stamp_meaning}
 
 -- no number of more than 18 bits is a serial, or a stamp
 narrow_serial : (p : ℕ) (d : Dec (p < 2 ^ 18)) → 2 ^ 18 ≤ p → serial_at p d ≡ None
@@ -78,3 +80,12 @@ stamp_spelled s =
       narrow = narrow;
       is = read_stamp s p (dec_lt p (2 ^ 18)) (dec_lt 0 (count_of p)) narrow (pattern_mark s.resent s.cabinet s.count s.cabinets s.most) (pattern_cabinet s.resent s.cabinet s.count s.cabinets s.most) (pattern_count s.resent s.cabinet s.count s.most);
     }
+
+pub serial_same : (one other : Serial) → Decides (one.number == other.number) (serial_meaning one ≡ serial_meaning other)
+serial_same one other = (λ h. ap (λ n. (0, n)) (eqb-true one.number other.number h), λ h. eq-eqb one.number other.number (ap (λ m. m.1) h))
+
+pub stamp_same : (one other : Stamp) → Decides (one.cabinet == other.cabinet && one.count == other.count) (stamp_meaning one ≡ stamp_meaning other)
+stamp_same one other = (
+  λ h. let e = and_parts (one.cabinet == other.cabinet) (one.count == other.count) h in λ i. (eqb-true one.cabinet other.cabinet e.0 i, eqb-true one.count other.count e.1 i),
+  λ h. and_from (one.cabinet == other.cabinet) (one.count == other.count) (eq-eqb one.cabinet other.cabinet (ap (λ m. m.0) h)) (eq-eqb one.count other.count (ap (λ m. m.1) h)),
+)

@@ -3,8 +3,8 @@ ghost use Rattle.std.specs.Prelude.{◌≡◌, ℕ, ◌^◌, ◌≤◌, None, De
 ghost use Rattle.values.specs.Kinds.{Spelled};
 
 // A kind of value. An `impl` cannot be written without showing all of this.
-pub trait Kind: Copy + Drop {
-    // What a value means. Two values are the same exactly when they mean the same.
+pub trait Kind: Copy + Drop + PartialEq {
+    // What a value means.
     ghost meaning: { Self → ℕ × ℕ };
 
     // The value that a pattern of a file stands for, if it stands for one.
@@ -16,9 +16,9 @@ pub trait Kind: Copy + Drop {
     // The kind has no value but those of its patterns.
     ghost spelled: { (value : Self) → Spelled reads value };
 
-    fn same(&self, other: &Self) -> bool
-        ensures { Decides result (meaning self.now ≡ meaning other.now) };
-
     fn from_pattern(pattern: u32) -> Option<Self>
         ensures { result ≡ reads pattern };
+
+    // Two values are equal exactly when they mean the same.
+    ghost same: { (one other : Self) → Decides (Self.eq one other) (meaning one ≡ meaning other) };
 }

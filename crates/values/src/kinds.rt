@@ -1,5 +1,5 @@
 // Serials and stamps as kinds of value.
-ghost use Rattle.values.specs.Owed.{serial_narrow, serial_spelled, stamp_narrow, stamp_spelled};
+ghost use Rattle.values.specs.Owed.{serial_narrow, serial_spelled, serial_same, stamp_narrow, stamp_spelled, stamp_same};
 ghost use Rattle.values.specs.Patterns.{serial_of, serial_meaning, stamp_of, stamp_meaning};
 
 use crate::kind::Kind;
@@ -18,9 +18,7 @@ impl Kind for Serial {
 
     ghost spelled = { serial_spelled };
 
-    fn same(&self, other: &Self) -> bool {
-        self.number == other.number
-    }
+    ghost same = { serial_same };
 
     fn from_pattern(pattern: u32) -> Option<Serial> {
         if pattern >= PATTERNS {
@@ -39,9 +37,7 @@ impl Kind for Stamp {
 
     ghost spelled = { stamp_spelled };
 
-    fn same(&self, other: &Self) -> bool {
-        self.cabinet == other.cabinet && self.count == other.count
-    }
+    ghost same = { stamp_same };
 
     fn from_pattern(pattern: u32) -> Option<Stamp> {
         let count = (pattern % 2048) as u16;

@@ -4,7 +4,9 @@ ghost use Rattle.std.specs.Prelude.{◌≤◌};
 // A stamp is a count that a cabinet issued. A cabinet that sends a stamp again marks it as resent, which does not change what
 // the stamp means.
 #[derive(Clone, Copy)]
+#[derive_where(PartialEq)]
 pub struct Stamp {
+    #[derive_where(skip(EqHashOrd))]
     pub(crate) resent: bool,
     pub(crate) cabinet: u8,
     pub(crate) count: u16,

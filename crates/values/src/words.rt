@@ -1,36 +1,48 @@
 // Values as text.
-ghost use Rattle.std.specs.Prelude.{◌≡◌, ℕ, List, IfOk, string_bytes};
+ghost use Rattle.std.specs.Prelude.{◌≡◌, ℕ, List, Some, refl};
 ghost use Rattle.values.specs.Words.{serial_words, stamp_words};
 
 use crate::kind::Kind;
 use crate::serial::Serial;
 use crate::stamp::Stamp;
-use std::alloc::{AllocError, Global};
+use std::fmt;
 
 // A kind of value that a report can write.
-pub trait Written: Kind {
+pub trait Written: Kind + fmt::Display {
     ghost words: { Self → List ℕ };
 
-    fn written(&self, heap: Global) -> Result<String, AllocError>
-        ensures { IfOk result (λ text. string_bytes text ≡ words self.now) };
+    // What is written of a value is its words.
+    ghost written: { (value : Self) → Self.output value ≡ Some (words value) };
+}
+
+impl fmt::Display for Serial {
+    ghost output = { λ serial. Some (serial_words serial) };
+
+    fn fmt<W: fmt::Write>(&self, f: &mut fmt::Formatter<W>) -> fmt::Result {
+        let number = self.number;
+        write!(f, "serial {number}")
+    }
 }
 
 impl Written for Serial {
     ghost words = { serial_words };
 
-    fn written(&self, heap: Global) -> Result<String, AllocError> {
-        let number = self.number;
-        format!(in heap; "serial {number}")
+    ghost written = { λ serial. refl };
+}
+
+impl fmt::Display for Stamp {
+    ghost output = { λ stamp. Some (stamp_words stamp) };
+
+    fn fmt<W: fmt::Write>(&self, f: &mut fmt::Formatter<W>) -> fmt::Result {
+        let cabinet = self.cabinet;
+        let count = self.count;
+        let mark = if self.resent { " resent" } else { "" };
+        write!(f, "stamp {cabinet}.{count}{mark}")
     }
 }
 
 impl Written for Stamp {
     ghost words = { stamp_words };
 
-    fn written(&self, heap: Global) -> Result<String, AllocError> {
-        let cabinet = self.cabinet;
-        let count = self.count;
-        let mark = if self.resent { " resent" } else { "" };
-        format!(in heap; "stamp {cabinet}.{count}{mark}")
-    }
+    ghost written = { λ stamp. refl };
 }
