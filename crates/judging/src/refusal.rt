@@ -1,7 +1,7 @@
 // What a judge can refuse.
 
 // Why a bay is not judged.
-#[derive(Clone, Copy)]
+#[derive(Clone, Copy, PartialEq)]
 pub enum JudgeRefusal {
     // The bay is above 63.
     NoBay { bay: u32 },

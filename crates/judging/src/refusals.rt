@@ -1,15 +1,15 @@
 // The refusals of a judge, with their numbers.
+ghost use Rattle.std.specs.Prelude.{◌≡◌};
 ghost use Rattle.judging.specs.Refusals.{judge_refusal};
 
 use crate::refusal::JudgeRefusal;
 use operations::refusal::{Layer, Refusal};
-use operations::refusals::Refused;
 
-impl Refused for JudgeRefusal {
-    ghost tells = { judge_refusal };
+impl From<JudgeRefusal> for Refusal {
+    ghost from_gives = { λ refused refusal. refusal ≡ judge_refusal refused };
 
-    fn refusal(&self) -> Refusal {
-        let (number, place) = match *self {
+    fn from(refused: JudgeRefusal) -> Refusal {
+        let (number, place) = match refused {
             JudgeRefusal::NoBay { bay } => (8, bay as usize),
             JudgeRefusal::NoLimit { limit } => (9, limit as usize),
             JudgeRefusal::ShortSheet { entries } => (10, entries),

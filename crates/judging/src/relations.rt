@@ -41,7 +41,7 @@ pub(crate) fn before<V: Kind>(first: &Row<V>, other: &Row<V>) -> bool
 pub(crate) fn alike<V: Kind>(first: &Row<V>, other: &Row<V>) -> bool
     ensures { result ≡ alike (meant V.Kind.meaning first.now) (meant V.Kind.meaning other.now) }
 {
-    first.bay == other.bay && first.value.same(&other.value)
+    first.bay == other.bay && first.value == other.value
 }
 
 // Whether the row tells a read of what the write writes.

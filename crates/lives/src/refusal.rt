@@ -1,7 +1,7 @@
 // Why a log refuses a call.
 
 // What went wrong, with the number that its place needs.
-#[derive(Clone, Copy)]
+#[derive(Clone, Copy, PartialEq)]
 pub enum LogRefusal {
     // A log cannot be opened at this tick.
     FirstTick { first: u32 },

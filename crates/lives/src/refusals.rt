@@ -1,15 +1,15 @@
 // The refusals of a log, with their numbers.
+ghost use Rattle.std.specs.Prelude.{◌≡◌};
 ghost use Rattle.lives.specs.Refusals.{log_refusal};
 
 use crate::refusal::LogRefusal;
 use operations::refusal::{Layer, Refusal};
-use operations::refusals::Refused;
 
-impl Refused for LogRefusal {
-    ghost tells = { log_refusal };
+impl From<LogRefusal> for Refusal {
+    ghost from_gives = { λ refused refusal. refusal ≡ log_refusal refused };
 
-    fn refusal(&self) -> Refusal {
-        let (number, place) = match *self {
+    fn from(refused: LogRefusal) -> Refusal {
+        let (number, place) = match refused {
             LogRefusal::FirstTick { first } => (17, first as usize),
             LogRefusal::NoCabinet { cabinet } => (8, cabinet as usize),
             LogRefusal::NoSuchBay { bay } => (8, bay as usize),

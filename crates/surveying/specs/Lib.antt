@@ -5,3 +5,4 @@ pub mod Faults
 pub mod Judged
 pub mod Laws
 pub mod Surveyed
+pub mod Words

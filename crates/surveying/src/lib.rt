@@ -10,3 +10,4 @@ pub mod refusals;
 pub mod report;
 mod sparing;
 pub mod survey;
+pub mod words;

@@ -1,7 +1,7 @@
 // What a survey can refuse.
 
 // Why a crane is not surveyed.
-#[derive(Clone, Copy)]
+#[derive(Clone, Copy, PartialEq)]
 pub enum SurveyRefusal {
     // The limit is not within 1 to 1,000,000.
     NoLimit { limit: u32 },

@@ -1,15 +1,15 @@
 // The refusals of a survey, with their numbers.
+ghost use Rattle.std.specs.Prelude.{◌≡◌};
 ghost use Rattle.surveying.specs.Refusals.{survey_refusal};
 
 use crate::refusal::SurveyRefusal;
 use operations::refusal::{Layer, Refusal};
-use operations::refusals::Refused;
 
-impl Refused for SurveyRefusal {
-    ghost tells = { survey_refusal };
+impl From<SurveyRefusal> for Refusal {
+    ghost from_gives = { λ refused refusal. refusal ≡ survey_refusal refused };
 
-    fn refusal(&self) -> Refusal {
-        let (number, place) = match *self {
+    fn from(refused: SurveyRefusal) -> Refusal {
+        let (number, place) = match refused {
             SurveyRefusal::NoLimit { limit } => (9, limit as usize),
             SurveyRefusal::TooMany { operations } => (11, operations),
             SurveyRefusal::TooManyWrites { bay } => (12, bay as usize),

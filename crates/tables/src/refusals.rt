@@ -6,22 +6,21 @@ ghost use Rattle.tables.specs.declared.refusal.TableRefusal.TheVariants as table
 
 use crate::refusal::{ListRefusal, TableRefusal};
 use operations::refusal::{Layer, Refusal};
-use operations::refusals::Refused;
 use words::refusal::WrongKind;
 
 // The number of records of a table, or of words of a list, that refusal 1 names.
 const MOST: usize = 512;
 
-impl Refused for TableRefusal {
-    ghost tells = { table_refusal };
+impl From<TableRefusal> for Refusal {
+    ghost from_gives = { λ refused refusal. refusal ≡ table_refusal refused };
 
-    fn refusal(&self) -> Refusal {
-        let (number, place, layer) = match self {
+    fn from(refused: TableRefusal) -> Refusal {
+        let (number, place, layer) = match refused {
             TableRefusal::TooLong => (1, MOST, Layer::Table),
-            TableRefusal::Ragged { length } => (2, *length, Layer::Table),
+            TableRefusal::Ragged { length } => (2, length, Layer::Table),
             TableRefusal::Words(wrong) => (3, wrong.word, Layer::WordsInTable),
-            TableRefusal::NoValue { place } => (4, *place, Layer::Table),
-            TableRefusal::StartsLate { place } => (5, *place, Layer::Table),
+            TableRefusal::NoValue { place } => (4, place, Layer::Table),
+            TableRefusal::StartsLate { place } => (5, place, Layer::Table),
         };
         Refusal {
             number,
@@ -31,13 +30,13 @@ impl Refused for TableRefusal {
     }
 }
 
-impl Refused for ListRefusal {
-    ghost tells = { list_refusal };
+impl From<ListRefusal> for Refusal {
+    ghost from_gives = { λ refused refusal. refusal ≡ list_refusal refused };
 
-    fn refusal(&self) -> Refusal {
-        let (number, place, layer) = match self {
+    fn from(refused: ListRefusal) -> Refusal {
+        let (number, place, layer) = match refused {
             ListRefusal::TooLong => (1, MOST, Layer::List),
-            ListRefusal::Ragged { length } => (2, *length, Layer::List),
+            ListRefusal::Ragged { length } => (2, length, Layer::List),
             ListRefusal::Words(wrong) => (3, wrong.word, Layer::WordsInList),
         };
         Refusal {
