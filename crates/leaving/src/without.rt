@@ -7,6 +7,7 @@ ghost use Rattle.leaving.specs.Owed.{kept_valid};
 
 use masks::{has_bit, with_bit};
 use operations::operation::Operation;
+use operations::pass::Pass;
 use operations::refusal::{NoBay, PastEnd};
 use operations::source::Source;
 use operations::step::Step;
@@ -30,32 +31,25 @@ impl<'a, S: Source> Source for Without<'a, S> {
 
     ghost begins = { λ w. ap (filter (keeps w.mask)) (S.Source.begins w.below.now) };
 
+    // As many as below, but for those that are left out.
     fn len(&self) -> usize {
-        let mut position = 0;
-        let mut count = 0;
-        for _seen in 0..self.below.len() {
-            if let Some(step) = self.below.next(position) {
-                if self.shows(&step.operation) {
-                    count += 1;
-                }
-                position = step.next;
+        let mut count = self.below.len();
+        for operation in Pass::over(self.below) {
+            if !self.shows(&operation) {
+                count -= 1;
             }
         }
         count
     }
 
     fn at(&self, place: usize) -> Result<Operation<S::Value>, PastEnd> {
-        let mut position = 0;
         let mut passed = 0;
-        for _seen in 0..self.below.len() {
-            if let Some(step) = self.below.next(position) {
-                if self.shows(&step.operation) {
-                    if passed == place {
-                        return Ok(step.operation);
-                    }
-                    passed += 1;
+        for operation in Pass::over(self.below) {
+            if self.shows(&operation) {
+                if passed == place {
+                    return Ok(operation);
                 }
-                position = step.next;
+                passed += 1;
             }
         }
         Err(PastEnd { place })

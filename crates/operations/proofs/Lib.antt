@@ -1,3 +1,3 @@
 pub mod Checks
 pub mod Places
-mod Passes
+pub mod Passes

@@ -2,6 +2,7 @@
 #![tactic(auto)]
 
 pub mod copying;
+pub mod lent;
 pub mod operation;
 pub mod pass;
 pub mod refusal;

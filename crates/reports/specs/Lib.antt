@@ -1,1 +1,3 @@
 pub mod Accounts
+pub mod Unreported
+pub mod Reporting

@@ -1,116 +1,63 @@
 // The account of a table and a list of bays.
-ghost use Rattle.std.specs.Prelude.{◌≡◌, IfOk, string_bytes, filter};
+ghost use Rattle.std.specs.Prelude.{◌≡◌, ℕ, ◌<◌, true, false, Some, filter, MatchOption};
 ghost use Rattle.masks.specs.Masks.{has_bit};
-ghost use Rattle.leaving.specs.Leaving.{entries, keeps};
-ghost use Rattle.operations.specs.Rooms.{held};
-ghost use Rattle.reports.specs.Accounts.{bays_words, or_none, told_words, contents, listed_bays, OpenedOrSaid, Accounted, Leaves};
+ghost use Rattle.leaving.specs.Leaving.{keeps};
+ghost use Rattle.reports.specs.Accounts.{bays_words, or_none, told_words};
 
-use crate::lines::rows_lines;
-use crate::opening::Opening;
-use leaving::without::{Without, leave_out};
-use operations::refusals::Refused;
-use operations::room::Room;
+use crate::lines::Operations;
+use leaving::without::Without;
 use operations::source::Source;
-use std::alloc::{AllocError, Global};
-use tables::list::open_list;
-use tables::table::Table;
-use values::kind::Kind;
+use std::fmt;
 use values::words::Written;
 
-// The bays that are left out, in ascending number.
-fn bays_text<S>(heap: Global, left: &Without<S>) -> Result<String, AllocError>
-    ensures { IfOk result (λ text. string_bytes text ≡ bays_words (has_bit left.now.mask) 64) }
-{
-    let mut text = String::new(heap);
-    for bay in 0..64 {
-        if left.leaves_out(bay) {
-            let word = format!(in heap; " {bay}")?;
-            text.push_str(word.as_str())?;
+// The bays that are left out, in ascending number, or a word for none.
+#[derive_where(Clone, Copy)]
+struct BaysLeftOut<'a, S> {
+    kept: Without<'a, S>,
+}
+
+impl<'a, S> BaysLeftOut<'a, S> {
+    // The lowest bay that is left out.
+    fn lowest(&self) -> Option<u32>
+        ensures { MatchOption result ((bay : ℕ) → bay < 64 → has_bit self.now.kept.mask bay ≡ false) (λ bay. (bay < 64) × (has_bit self.now.kept.mask bay ≡ true)) }
+    {
+        (0..64).find(|bay| self.kept.leaves_out(*bay))
+    }
+}
+
+impl<'a, S> fmt::Display for BaysLeftOut<'a, S> {
+    ghost output = { λ left. Some (or_none (bays_words (has_bit left.kept.mask) 64)) };
+
+    fn fmt<W: fmt::Write>(&self, f: &mut fmt::Formatter<W>) -> fmt::Result {
+        let Some(_) = self.lowest() else {
+            return f.write_str(" none");
+        };
+        for bay in 0..64 {
+            if self.kept.leaves_out(bay) {
+                write!(f, " {bay}")?;
+            }
         }
-    }
-    Ok(text)
-}
-
-// The same, or a word for none.
-fn bays_line<S>(heap: Global, left: &Without<S>) -> Result<String, AllocError>
-    ensures { IfOk result (λ text. string_bytes text ≡ or_none (bays_words (has_bit left.now.mask) 64)) }
-{
-    let text = bays_text(heap, left)?;
-    if text.is_empty() {
-        String::from_str(heap, " none")
-    } else {
-        Ok(text)
+        Ok(())
     }
 }
 
-// The account of the kept operations of a table that has so many records.
-fn kept_account<S: Source>(
-    heap: Global,
-    records: usize,
-    left: &Without<S>,
-) -> Result<String, AllocError>
+// What is told of a table that has so many records: the bays that are left out, and the operations that are kept.
+#[derive_where(Clone, Copy)]
+pub struct Account<'a, S> {
+    pub records: usize,
+    pub kept: Without<'a, S>,
+}
+
+impl<'a, S: Source> fmt::Display for Account<'a, S>
 where
     S::Value: Written,
-    ensures { IfOk result (λ text. string_bytes text ≡ told_words S.Value.Written.words records (has_bit left.now.mask) (filter (keeps left.now.mask) (S.Source.operations left.now.below.now))) }
 {
-    let bays = bays_line(heap, left)?;
-    let lines = rows_lines(heap, left)?;
-    let operations = lines.text;
-    let count = lines.count;
-    format!(in heap; "records {records}\nbays left out:{bays}\n{operations}kept {count}")
-}
+    ghost output = { λ a. Some (told_words S.Value.Written.words a.records (has_bit a.kept.mask) (filter (keeps a.kept.mask) (S.Source.operations a.kept.below.now))) };
 
-// The account of a table with the listed bays left out.
-fn account_without<K: Written>(
-    heap: Global,
-    table: &Table<K>,
-    bays: Option<&[u32]>,
-) -> Result<String, AllocError>
-    ensures { IfOk result (λ text. Leaves K.Written.words (held table.now.rows) (entries bays.entry) (string_bytes text)) }
-{
-    match leave_out(table, bays) {
-        Ok(left) => kept_account(heap, table.len(), &left),
-        Err(refused) => refused.refusal().to_string(heap),
+    fn fmt<W: fmt::Write>(&self, f: &mut fmt::Formatter<W>) -> fmt::Result {
+        let records = self.records;
+        let bays = BaysLeftOut { kept: self.kept };
+        let operations = Operations { source: &self.kept };
+        write!(f, "records {records}\nbays left out:{bays}\n{operations}")
     }
-}
-
-// The bays of a list that may be absent.
-pub fn listed(bays: &Option<Room<u32>>) -> Option<&[u32]>
-    ensures { entries result ≡ listed_bays bays.now }
-{
-    match bays {
-        Some(bays) => Some(bays.as_slice()),
-        None => None,
-    }
-}
-
-// Opens the table of a folder, if it has one.
-pub fn open_table<K: Kind>(heap: Global, table: Option<&[u8]>) -> Result<Opening<K>, AllocError>
-    ensures { IfOk result (OpenedOrSaid K.Kind.reads (contents table.entry)) }
-{
-    let Some(bytes) = table else {
-        return Ok(Opening::Said(String::from_str(heap, "no table")?));
-    };
-    match Table::open(Room::new(heap)?, bytes) {
-        Ok(table) => Ok(Opening::Opened(table)),
-        Err(refused) => Ok(Opening::Said(refused.refusal().to_string(heap)?)),
-    }
-}
-
-// The account of a table with a list file, if there is one: its bays are left out.
-pub fn account<K: Written>(
-    heap: Global,
-    table: &Table<K>,
-    list: Option<&[u8]>,
-) -> Result<String, AllocError>
-    ensures { IfOk result (λ text. Accounted K.Written.words (held table.now.rows) (string_bytes text) (contents list.entry)) }
-{
-    let bays = match list {
-        Some(bytes) => match open_list(Room::new(heap)?, bytes) {
-            Ok(bays) => Some(bays),
-            Err(refused) => return refused.refusal().to_string(heap),
-        },
-        None => None,
-    };
-    account_without(heap, table, listed(&bays))
 }

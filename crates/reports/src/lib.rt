@@ -3,4 +3,5 @@
 
 pub mod account;
 pub mod lines;
-pub mod opening;
+pub mod reporting;
+pub mod unreported;

@@ -1,55 +1,58 @@
-// The lines of an account.
-ghost use Rattle.std.specs.Prelude.{◌≡◌, length, IfOk, string_bytes};
-ghost use Rattle.reports.specs.Accounts.{acting_words, row_words, rows_words};
+// The lines of operations in a report.
+ghost use Rattle.std.specs.Prelude.{Some};
+ghost use Rattle.reports.specs.Accounts.{kept_words, row_words};
 
+use operations::pass::Pass;
 use operations::row::Row;
 use operations::source::Source;
-use std::alloc::{AllocError, Global};
+use std::fmt;
 use values::words::Written;
 
-// What an operation is and where: `0 write bay 3 cabinet 5`.
-fn acting<V: Copy>(heap: Global, place: usize, row: &Row<V>) -> Result<String, AllocError>
-    ensures { IfOk result (λ text. string_bytes text ≡ acting_words place row.now) }
-{
-    let sort = row.sort.name();
-    let bay = row.bay;
-    let cabinet = row.cabinet;
-    format!(in heap; "{place} {sort} bay {bay} cabinet {cabinet}")
+// An operation, and its place among those that are kept.
+#[derive_where(Clone, Copy; V: Copy)]
+pub struct OperationLine<V> {
+    pub place: usize,
+    pub row: Row<V>,
 }
 
-// The line of an operation.
-pub fn row_line<V: Written>(heap: Global, place: usize, row: &Row<V>) -> Result<String, AllocError>
-    ensures { IfOk result (λ text. string_bytes text ≡ row_words V.Written.words place row.now) }
-{
-    let acting = acting(heap, place, row)?;
-    let value = row.value.written(heap)?;
-    let start = row.start;
-    let finish = row.finish;
-    format!(in heap; "{acting} {value} from {start} to {finish}\n")
+impl<V: Written> fmt::Display for OperationLine<V> {
+    ghost output = { λ line. Some (row_words V.Written.words line.place line.row) };
+
+    fn fmt<W: fmt::Write>(&self, f: &mut fmt::Formatter<W>) -> fmt::Result {
+        let place = self.place;
+        let Row {
+            sort,
+            bay,
+            cabinet,
+            value,
+            start,
+            finish,
+        } = self.row;
+        writeln!(
+            f,
+            "{place} {sort} bay {bay} cabinet {cabinet} {value} from {start} to {finish}"
+        )
+    }
 }
 
-// Lines of operations, and how many they are.
-#[derive(Drop)]
-pub struct Lines {
-    pub text: String,
-    pub count: usize,
+// The operations of a source, each with its place, and how many they are.
+#[derive_where(Clone, Copy)]
+pub struct Operations<'a, S> {
+    pub source: &'a S,
 }
 
-// The lines of all operations of a source.
-pub fn rows_lines<S: Source>(heap: Global, source: &S) -> Result<Lines, AllocError>
+impl<'a, S: Source> fmt::Display for Operations<'a, S>
 where
     S::Value: Written,
-    ensures { IfOk result (λ lines. (string_bytes lines.text ≡ rows_words S.Value.Written.words 0 (S.Source.operations source.now)) × (lines.count ≡ length (S.Source.operations source.now))) }
 {
-    let mut text = String::new(heap);
-    let mut position = 0;
-    let count = source.len();
-    for place in 0..count {
-        if let Some(step) = source.next(position) {
-            let line = row_line(heap, place, &step.operation.row())?;
-            text.push_str(line.as_str())?;
-            position = step.next;
+    ghost output = { λ o. Some (kept_words S.Value.Written.words (S.Source.operations o.source.now)) };
+
+    fn fmt<W: fmt::Write>(&self, f: &mut fmt::Formatter<W>) -> fmt::Result {
+        let count = self.source.len();
+        for (place, operation) in Pass::over(self.source).enumerate() {
+            let row = operation.row();
+            write!(f, "{}", OperationLine { place, row })?;
         }
+        write!(f, "kept {count}")
     }
-    Ok(Lines { text, count })
 }

@@ -17,9 +17,7 @@ use words::reader::WordReader;
 fn valued<K: Kind>(row: Row<u32>, place: usize) -> Result<Row<K>, TableRefusal>
     ensures { MatchResult result (λ v. Valued K.Kind.reads row v) (λ e. first_failed (value_checks K.Kind.reads row place) ≡ Some (table_refusal e)) }
 {
-    let Some(value) = K::from_pattern(row.value) else {
-        return Err(TableRefusal::NoValue { place });
-    };
+    let value = K::from_pattern(row.value).ok_or(TableRefusal::NoValue { place })?;
     if row.start > row.finish {
         return Err(TableRefusal::StartsLate { place });
     }

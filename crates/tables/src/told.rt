@@ -1,13 +1,24 @@
 // A table as a source of operations.
-ghost use Rattle.std.specs.Prelude.{drop, refl};
+ghost use Rattle.std.specs.Prelude.{◌≡◌, drop, refl};
 ghost use Rattle.operations.specs.Rooms.{held};
 
 use crate::table::Table;
+use operations::lent::LentRows;
 use operations::operation::Operation;
 use operations::refusal::PastEnd;
 use operations::source::Source;
 use operations::step::Step;
 use values::kind::Kind;
+
+impl<K: Kind> Table<K> {
+    fn lent(&self) -> LentRows<'_, K>
+        ensures { result.rows.now ≡ held self.now.rows }
+    {
+        LentRows {
+            rows: self.rows.as_slice(),
+        }
+    }
+}
 
 impl<K: Kind> Source for Table<K> {
     type Value = K;
@@ -25,23 +36,10 @@ impl<K: Kind> Source for Table<K> {
     }
 
     fn at(&self, place: usize) -> Result<Operation<K>, PastEnd> {
-        let rows = self.rows.as_slice();
-        if place >= rows.len() {
-            return Err(PastEnd { place });
-        }
-        match Operation::of(rows[place]) {
-            Some(operation) => Ok(operation),
-            None => unreachable(),
-        }
+        self.lent().at(place)
     }
 
     fn next(&self, position: usize) -> Option<Step<K>> {
-        match self.at(position) {
-            Ok(operation) => Some(Step {
-                operation,
-                next: position + 1,
-            }),
-            Err(_) => None,
-        }
+        self.lent().next(position)
     }
 }

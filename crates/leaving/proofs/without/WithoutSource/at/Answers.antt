@@ -1,50 +1,23 @@
-use Rattle.std.proofs.Common.{◌≡◌, ◌≤◌, true, false, length, filter, sym, refl, ap, ◌∙◌, arith, take_all}
+use Rattle.std.proofs.Common.{◌≡◌, true, filter, sym, ap, ◌∙◌, arith}
 use Rattle.std.specs.List.{slice_get}
+use Rattle.operations.specs.Passes.{coming}
 use Rattle.leaving.specs.Leaving.{keeps}
-use Rattle.operations.proofs.Places.{count_yes, kept_no, nth_kept, drop_nth, drop_rest, drop_none}
+use Rattle.leaving.proofs.Steps.{shown_here, shown_on, passed_on}
 use Rattle.leaving.proofs.without.WithoutSource.at.Goals as goal
-use Rattle.leaving.proofs.without.WithoutSource.at.Goals.{in-Some+then-shows+else-passed-place, in-Some+else-shows, in_default}
-
-pub loop-seen-init : goal.loop-seen-init
-loop-seen-init g c = (omega arith, omega arith, g.S.Source.begins c.args.self.now.below.now, refl)
-
-pub loop-seen-preserved : goal.loop-seen-preserved
-loop-seen-preserved g c =
-    let mask = c.args.self.now.mask in let i = c.loop-seen._seen in
-    let onward = g.S.Source.onward c.args.self.now.below.now in
-    let xs = g.S.Source.operations c.args.self.now.below.now in
-    elim c.match-next.branch [
-      | in-Some+then-shows+else-passed-place w ↦
-          let row = w.in-Some.step.operation.row in
-          let here = sym c.loop-seen.invariant.2 ∙ w.in-Some.ensures in
-          let test : keeps mask row ≡ true = cc in
-          let counted = count_yes (keeps mask) xs i row (drop_nth xs i row _ here) test in
-          (omega arith, omega arith, ap onward w.position-is ∙ drop_rest xs i row _ here, omega arith)
-      | in-Some+else-shows w ↦
-          let row = w.in-Some.step.operation.row in
-          let here = sym c.loop-seen.invariant.2 ∙ w.in-Some.ensures in
-          let test : keeps mask row ≡ false = cc in
-          let counted = ap length (kept_no (keeps mask) xs i row (drop_nth xs i row _ here) test) in
-          (omega arith, omega arith, ap onward w.position-is ∙ drop_rest xs i row _ here, omega arith)
-      | in_default w ↦
-          let none = drop_none xs i (sym c.loop-seen.invariant.2 ∙ w.in_default.ensures) in
-          absurd (omega arith)
-    ]
 
 pub returns-then-passed-place : goal.returns-then-passed-place
 returns-then-passed-place g c =
     let mask = c.args.self.now.mask in
-    let xs = g.S.Source.operations c.args.self.now.below.now in
-    let row = c.in-Some.step.operation.row in
-    let here = sym c.loop-seen.invariant.2 ∙ c.in-Some.ensures in
-    let test : keeps mask row ≡ true = cc in
-    ap (slice_get (filter (keeps mask) xs)) (sym c.if-passed-place.true ∙ c.loop-seen.invariant.3)
-    ∙ nth_kept (keeps mask) xs c.loop-seen._seen row (drop_nth xs c.loop-seen._seen row _ here) test
+    let test : keeps mask c.in-Some.operation.row ≡ true = cc in
+    let shown = filter (keeps mask) (g.S.Source.operations c.args.self.now.below.now) in
+    ap (slice_get shown) (sym c.if-passed-place.true)
+    ∙ shown_here (keeps mask) (coming g.S.Source.onward c.loop-operation.operation-iterator) _ _ c.in-Some.ensures.steps test shown _ c.loop-operation.invariant.2
 
-pub returns : goal.returns
-returns g c =
+pub loop-operation-preserved-then-shows : goal.loop-operation-preserved-then-shows
+loop-operation-preserved-then-shows g c =
     let mask = c.args.self.now.mask in
-    let xs = g.S.Source.operations c.args.self.now.below.now in
-    let h : length xs ≤ c.loop-seen._seen = omega arith in
-    let e = ap (λ ys. length (filter (keeps mask) ys)) (take_all _ xs h) in
-    (omega arith, refl)
+    let test : keeps mask c.in-Some.operation.row ≡ true = cc in
+    let left = coming g.S.Source.onward c.loop-operation.operation-iterator in
+    let shown = filter (keeps mask) (g.S.Source.operations c.args.self.now.below.now) in
+    let here = c.in-Some.ensures.steps in
+    (omega arith, passed_on (keeps mask) left _ _ here test shown _ c.loop-operation.invariant.1, shown_on (keeps mask) left _ _ here test shown _ c.loop-operation.invariant.2)
