@@ -1,39 +1,18 @@
 // Prints the account of table.bin and bays.bin in the folder that it is run in. The table's values are stamps.
 #![tactic(auto)]
 
-use files::contents;
-use reports::account::{account, open_table};
-use reports::opening::Opening;
-use std::io;
-use tables::table::Table;
+use folders::failed::Failed;
+use folders::folder::Folder;
+use folders::saying::say;
+use reports::reporting::account;
 use values::stamp::Stamp;
 
-// One byte more than a file may have is enough to tell that it is too long.
-const TABLE_BYTES: usize = 6_145;
-
-const LIST_BYTES: usize = 2_049;
-
-// The account of a table with the folder's list of bays.
-fn with_list(rt: &HostRuntime, table: &Table<Stamp>) -> io::Result<String> {
-    let list = contents(rt, "bays.bin", LIST_BYTES)?;
-    Ok(account(rt.alloc(), table, list.as_deref())?)
-}
-
-// The account, or what is said in its place.
-fn told(rt: &HostRuntime) -> io::Result<String> {
-    let table = contents(rt, "table.bin", TABLE_BYTES)?;
-    match open_table::<Stamp>(rt.alloc(), table.as_deref())? {
-        Opening::Said(text) => Ok(text),
-        Opening::Opened(table) => with_list(rt, &table),
-    }
-}
-
-fn run(rt: &HostRuntime) -> anyhow::Result<()> {
-    let text = told(rt)?;
-    println!(rt; "{text}")?;
-    Ok(())
+fn told(rt: &HostRuntime) -> Result<String, Failed> {
+    let folder = Folder::<Stamp>::open(rt)?;
+    let text = account(rt.alloc(), &folder.table, folder.list.as_deref())?;
+    Ok(text)
 }
 
 fn main(rt: HostRuntime) -> anyhow::Result<()> {
-    run(&rt)
+    say(&rt, told(&rt))
 }

@@ -1,10 +1,9 @@
 -- The findings of an accepted survey say the lines of its bays. Assumes nothing.
-use Rattle.std.proofs.Common.{◌≡◌, ℕ, zero, suc, ◌≤◌, Bool, true, false, cond, List, [], ◌∷◌, ◌++◌, length, Ok, Err, sym, refl, ap, ◌∙◌, ap₂, subst₂, append-nil, arith}
+use Rattle.std.proofs.Common.{◌≡◌, ℕ, zero, suc, ◌≤◌, Bool, true, false, cond, List, [], ◌∷◌, ◌++◌, length, Ok, sym, refl, ap, ◌∙◌, ap₂, subst₂, append-nil, arith}
 use Rattle.std.proofs.lemmas.List.{length-append}
 use Rattle.std.proofs.lemmas.Bool.{ltb-false}
 use Rattle.operations.specs.Checks.{first_failed}
 use Rattle.operations.specs.Rows.{AllValid}
-use Rattle.operations.specs.Words.{refusal_words}
 use Rattle.operations.specs.declared.refusal.Layer.TheVariants.{Survey}
 use Rattle.operations.specs.declared.row.Row.{Row}
 use Rattle.orders.specs.Claims.{Judgeable}
@@ -14,14 +13,13 @@ use Rattle.relations.specs.Meanings.{told}
 use Rattle.relations.proofs.Told.{told_timed}
 use Rattle.surveying.specs.declared.finding.Finding.{Finding}
 use Rattle.surveying.specs.declared.report.Report.{Report}
-use Rattle.surveying.specs.declared.refusal.SurveyRefusal.{SurveyRefusal}
-use Rattle.surveying.specs.Refusals.{survey_refusal}
 use Rattle.surveying.specs.Surveyed.{Surveyed}
+use Rattle.surveying.specs.Words.{report_words}
 use Rattle.surveying.specs.Surveying.{crane_bays, survey_checks, report_of, judged_age, judged_order, has_operation, finding, findings_below, orders_below}
 use Rattle.surveying.proofs.Outcomes.{order_idle, order_length, operations_written}
 use Rattle.surveying.proofs.Answering.{no_check_failed, values_passed}
 use Rattle.surveying.proofs.Spared.{spared_judgeable}
-use Rattle.summaries.specs.Summaries.{report_words, survey_words, survey_said, bay_words, all_writes, findings_words, bays_words}
+use Rattle.summaries.specs.Summaries.{survey_words, bay_words, all_writes, findings_words, bays_words}
 use Rattle.summaries.proofs.Texts.{push_finding, push_writes}
 
 module _ (ops : List Operation) (judgeable : Judgeable ops whole) where
@@ -59,12 +57,7 @@ module _ {V : Type 0} (m : V → ℕ × ℕ) (rows : List (Row V)) (valid : AllV
   pub writes_fit : all_writes findings ≤ length orders
   writes_fit = subst₂ (λ fs os. all_writes fs ≤ length os) (sym surveyed.kept.0) (sym surveyed.kept.1) (omega (arith, writes_placed (told m rows) surveyed_judgeable crane_bays))
 
-  pub report_said : report_words report ++ findings_words findings orders ≡ survey_said (told m rows) limit
+  pub report_said : report_words report ++ findings_words findings orders ≡ survey_words (told m rows) report
   report_said =
       ap₂ (λ (fs : List Finding) (os : List ℕ). report_words report ++ findings_words fs os) surveyed.kept.0 surveyed.kept.1
       ∙ ap (λ l. report_words report ++ l) (findings_told (told m rows) surveyed_judgeable crane_bays)
-      ∙ ap (survey_words (told m rows)) surveyed.decided
-
--- and what a refused one says
-pub refusal_said : (ops : List Operation) (limit : ℕ) (findings : List Finding) (orders : List ℕ) (e : SurveyRefusal) → Surveyed ops limit findings orders (Err e) → refusal_words (survey_refusal e) ≡ survey_said ops limit
-refusal_said ops limit findings orders e surveyed = ap (survey_words ops) surveyed.decided

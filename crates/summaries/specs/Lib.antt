@@ -1,2 +1,2 @@
 pub mod Summaries
-pub mod Tables
+pub mod Summarising

@@ -1,20 +1,15 @@
 -- A survey as text. Assumes nothing.
-use Rattle.std.specs.Prelude.{ℕ, zero, suc, ◌+◌, cond, List, [], ◌∷◌, ◌++◌, take, drop, Ok, Err, codes, decimal, Result}
-use Rattle.operations.specs.Words.{refusal_words}
-use Rattle.operations.specs.declared.refusal.Refusal.{Refusal}
+use Rattle.std.specs.Prelude.{ℕ, zero, suc, ◌+◌, cond, List, [], ◌∷◌, ◌++◌, take, drop, codes, decimal}
 use Rattle.orders.specs.Orders.{Operation}
 use Rattle.surveying.specs.declared.finding.Finding.{Finding}
 use Rattle.surveying.specs.declared.report.Report.{Report}
-use Rattle.surveying.specs.Surveying.{crane_bays, judged_age, judged_order, has_operation, survey_answer}
+use Rattle.surveying.specs.Surveying.{crane_bays, judged_age, judged_order, has_operation}
+use Rattle.surveying.specs.Words.{report_words}
 
 -- as ` 0 1`
 abbrev pub places_words : List ℕ → List ℕ
 places_words [] = []
 places_words (p ∷ ps) = (codes " " ++ decimal p) ++ places_words ps
-
--- as `age 2 trials 3 kept 3`
-abbrev pub report_words : Report → List ℕ
-report_words r = codes "age " ++ (decimal r.age ++ (codes " trials " ++ (decimal r.trials ++ (codes " kept " ++ decimal r.kept))))
 
 -- a line more, as `bay 3 age 2 order 0 1`
 abbrev pub bay_words : (bay age : ℕ) → List ℕ → List ℕ
@@ -35,11 +30,6 @@ abbrev pub bays_words : List Operation → ℕ → List ℕ
 bays_words ops zero = []
 bays_words ops (suc n) = bays_words ops n ++ cond (has_operation ops n) (bay_words n (judged_age ops n) (judged_order ops n)) []
 
--- what is said of the survey of operations: the refusal, or the report and a line for each bay with operations
-abbrev pub survey_words : List Operation → Result Report Refusal → List ℕ
-survey_words ops (Ok report) = report_words report ++ bays_words ops crane_bays
-survey_words ops (Err e) = refusal_words e
-
--- what is said of the survey of operations with this limit
-abbrev pub survey_said : List Operation → (limit : ℕ) → List ℕ
-survey_said ops limit = survey_words ops (survey_answer ops limit)
+-- a report, and a line for each bay with operations
+abbrev pub survey_words : List Operation → Report → List ℕ
+survey_words ops report = report_words report ++ bays_words ops crane_bays

@@ -3,4 +3,3 @@
 
 mod lines;
 pub mod summary;
-pub mod text;

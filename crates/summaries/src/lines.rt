@@ -1,70 +1,71 @@
 // The lines of a report.
-ghost use Rattle.std.specs.Prelude.{◌≡◌, ◌≤◌, ◌++◌, length, IfOk, string_bytes};
-ghost use Rattle.summaries.specs.Summaries.{places_words, report_words, bay_words, all_writes, findings_words};
+ghost use Rattle.std.specs.Prelude.{◌≤◌, ◌++◌, length, Some};
+ghost use Rattle.surveying.specs.Words.{report_words};
+ghost use Rattle.summaries.specs.Summaries.{places_words, bay_words, all_writes, findings_words};
 
-use std::alloc::{AllocError, Global};
+use std::fmt;
 use surveying::finding::Finding;
 use surveying::report::Report;
 
-// Places, each with a space in front.
-fn places_text(heap: Global, places: &[usize]) -> Result<String, AllocError>
-    ensures { IfOk result (λ text. string_bytes text ≡ places_words places.now) }
-{
-    let mut text = String::new(heap);
-    for place in places {
-        let word = format!(in heap; " {place}")?;
-        text.push_str(word.as_str())?;
+// The places of an order, each with a space in front.
+#[derive(Clone, Copy)]
+struct Places<'a> {
+    places: &'a [usize],
+}
+
+impl<'a> fmt::Display for Places<'a> {
+    ghost output = { λ p. Some (places_words p.places.now) };
+
+    fn fmt<W: fmt::Write>(&self, f: &mut fmt::Formatter<W>) -> fmt::Result {
+        for place in self.places {
+            write!(f, " {place}")?;
+        }
+        Ok(())
     }
-    Ok(text)
 }
 
 // The line of a bay, behind the end of the line before it.
-fn bay_line(heap: Global, finding: &Finding, order: &[usize]) -> Result<String, AllocError>
-    ensures { IfOk result (λ text. string_bytes text ≡ bay_words finding.now.bay finding.now.age order.now) }
-{
-    let bay = finding.bay;
-    let age = finding.age;
-    let places = places_text(heap, order)?;
-    format!(in heap; "\nbay {bay} age {age} order{places}")
+#[derive(Clone, Copy)]
+struct BayLine<'a> {
+    bay: u8,
+    age: usize,
+    order: Places<'a>,
 }
 
-// The lines of the bays, whose orders stand one behind the other.
-fn bays_lines(heap: Global, findings: &[Finding], orders: &[usize]) -> Result<String, AllocError>
-    requires { all_writes findings.now ≤ length orders.now }
-    ensures { IfOk result (λ text. string_bytes text ≡ findings_words findings.now orders.now) }
-{
-    let mut text = String::new(heap);
-    let mut rest = orders;
-    for finding in findings {
-        let (order, later) = rest.split_at(finding.writes);
-        let line = bay_line(heap, finding, order)?;
-        text.push_str(line.as_str())?;
-        rest = later;
+impl<'a> fmt::Display for BayLine<'a> {
+    ghost output = { λ l. Some (bay_words l.bay l.age l.order.places.now) };
+
+    fn fmt<W: fmt::Write>(&self, f: &mut fmt::Formatter<W>) -> fmt::Result {
+        let BayLine { bay, age, order } = *self;
+        write!(f, "\nbay {bay} age {age} order{order}")
     }
-    Ok(text)
 }
 
-// The first line.
-fn report_line(heap: Global, report: &Report) -> Result<String, AllocError>
-    ensures { IfOk result (λ text. string_bytes text ≡ report_words report.now) }
-{
-    let age = report.age;
-    let trials = report.trials;
-    let kept = report.kept;
-    format!(in heap; "age {age} trials {trials} kept {kept}")
+// A report and its findings, whose orders stand one behind the other.
+#[derive(Clone, Copy)]
+pub(crate) struct Summary<'a> {
+    pub(crate) report: Report,
+    pub(crate) findings: &'a [Finding],
+    pub(crate) orders: &'a [usize],
+    ghost fit: { all_writes findings.now ≤ length orders.now },
 }
 
-// The whole report: its first line, and a line for each bay.
-pub(crate) fn report_text(
-    heap: Global,
-    report: &Report,
-    findings: &[Finding],
-    orders: &[usize],
-) -> Result<String, AllocError>
-    requires { all_writes findings.now ≤ length orders.now }
-    ensures { IfOk result (λ text. string_bytes text ≡ report_words report.now ++ findings_words findings.now orders.now) }
-{
-    let first = report_line(heap, report)?;
-    let bays = bays_lines(heap, findings, orders)?;
-    format!(in heap; "{first}{bays}")
+impl<'a> fmt::Display for Summary<'a> {
+    ghost output = { λ s. Some (report_words s.report ++ findings_words s.findings.now s.orders.now) };
+
+    fn fmt<W: fmt::Write>(&self, f: &mut fmt::Formatter<W>) -> fmt::Result {
+        self.report.fmt(f)?;
+        let mut rest = self.orders;
+        for finding in self.findings {
+            let (places, later) = rest.split_at(finding.writes);
+            let line = BayLine {
+                bay: finding.bay,
+                age: finding.age,
+                order: Places { places },
+            };
+            line.fmt(f)?;
+            rest = later;
+        }
+        Ok(())
+    }
 }

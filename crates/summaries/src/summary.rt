@@ -1,52 +1,54 @@
-// The survey of a table and a list of bays as text.
-ghost use Rattle.std.specs.Prelude.{IfOk, string_bytes};
-ghost use Rattle.leaving.specs.Leaving.{entries};
+// Surveys as text.
 ghost use Rattle.operations.specs.Rooms.{held};
-ghost use Rattle.reports.specs.Accounts.{contents};
-ghost use Rattle.summaries.specs.Tables.{SaidWithout, Summarised};
+ghost use Rattle.relations.specs.Meanings.{told};
+ghost use Rattle.reports.specs.Reporting.{contents};
+ghost use Rattle.summaries.specs.Summarising.{Said, Summarised};
 
-use crate::text::survey_text;
+use crate::lines::Summary;
 use leaving::without::leave_out;
-use operations::refusals::Refused;
-use operations::room::Room;
-use reports::account::listed;
-use std::alloc::{AllocError, Global};
+use operations::refusal::Refusal;
+use operations::source::Source;
+use reports::reporting::{listed, open_bays};
+use reports::unreported::Unreported;
+use std::alloc::Global;
 use surveying::desk::SurveyDesk;
-use tables::list::open_list;
+use surveying::survey::survey;
 use tables::table::Table;
 use values::kind::Kind;
 
-// The survey of a table with the listed bays left out.
-fn survey_without<K: Kind>(
+// The survey of a source as text.
+pub fn survey_text<S: Source>(
     heap: Global,
-    table: &Table<K>,
-    bays: Option<&[u32]>,
+    source: &S,
     limit: u32,
-) -> Result<String, AllocError>
-    ensures { IfOk result (λ text. SaidWithout K.Kind.meaning (held table.now.rows) limit (entries bays.entry) (string_bytes text)) }
+    desk: &mut SurveyDesk<S::Value>,
+) -> Result<String, Unreported>
+    ensures { Said (told S.Value.Kind.meaning (S.Source.operations source.now)) limit result }
 {
-    let mut desk = SurveyDesk::new(heap)?;
-    match leave_out(table, bays) {
-        Ok(left) => survey_text(heap, &left, limit, &mut desk),
-        Err(refused) => refused.refusal().to_string(heap),
-    }
+    let report = match survey(source, limit, desk) {
+        Ok(report) => report,
+        Err(refused) => return Err(Unreported::Refused(Refusal::from(refused))),
+    };
+    let summary = Summary {
+        report,
+        findings: desk.findings(),
+        orders: desk.orders(),
+    };
+    let text = summary.to_string(heap)?;
+    Ok(text)
 }
 
-// The survey of a table with a list file, if there is one: its bays are left out.
+// The survey of a table without the bays of a list file, if there is one.
 pub fn summary<K: Kind>(
     heap: Global,
     table: &Table<K>,
     list: Option<&[u8]>,
     limit: u32,
-) -> Result<String, AllocError>
-    ensures { IfOk result (λ text. Summarised K.Kind.meaning (held table.now.rows) limit (string_bytes text) (contents list.entry)) }
+) -> Result<String, Unreported>
+    ensures { Summarised K.Kind.meaning (held table.now.rows) limit (contents list.entry) result }
 {
-    let bays = match list {
-        Some(bytes) => match open_list(Room::new(heap)?, bytes) {
-            Ok(bays) => Some(bays),
-            Err(refused) => return refused.refusal().to_string(heap),
-        },
-        None => None,
-    };
-    survey_without(heap, table, listed(&bays), limit)
+    let bays = open_bays(heap, list)?;
+    let kept = leave_out(table, listed(&bays))?;
+    let mut desk = SurveyDesk::new(heap)?;
+    survey_text(heap, &kept, limit, &mut desk)
 }

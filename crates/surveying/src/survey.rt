@@ -12,7 +12,7 @@ use operations::copying::copy;
 use operations::source::Source;
 
 // The largest limit on trials.
-const MOST_TRIALS: u32 = 1_000_000;
+pub const MOST_TRIALS: u32 = 1_000_000;
 
 // How many operations a source may have.
 const MOST_OPERATIONS: usize = 512;
