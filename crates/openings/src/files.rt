@@ -48,10 +48,7 @@ impl File {
     }
 
     pub fn push(&mut self, word: u32) -> Result<(), AllocError> {
-        for byte in word.to_be_bytes() {
-            self.bytes.push(byte)?;
-        }
-        Ok(())
+        self.bytes.extend_from_slice(&word.to_be_bytes())
     }
 
     pub fn push_all(&mut self, words: &[u32]) -> Result<(), AllocError> {
@@ -61,14 +58,11 @@ impl File {
         Ok(())
     }
 
-    // The same file with another word at a place; a place past the end, or past any file that is tried, is left.
+    // The same file with another word at a place; a place past the end is left.
     pub fn with(mut self, place: usize, word: u32) -> File {
-        let high = word.to_be_bytes();
-        if place < 10_000 && 4 * place + 4 <= self.bytes.len() {
-            self.bytes[4 * place] = high[0];
-            self.bytes[4 * place + 1] = high[1];
-            self.bytes[4 * place + 2] = high[2];
-            self.bytes[4 * place + 3] = high[3];
+        let start = place.saturating_mul(4);
+        for (byte, other) in self.bytes.iter_mut().skip(start).zip(word.to_be_bytes()) {
+            *byte = other;
         }
         self
     }

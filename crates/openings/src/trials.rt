@@ -1,9 +1,9 @@
 // How files are tried.
 use crate::files::File;
-use operations::refusals::Refused;
+use operations::refusal::Refusal;
 use operations::source::Source;
-use reports::account::{account, open_table};
-use reports::opening::Opening;
+use reports::reporting::{account, open_table};
+use reports::unreported::Unreported;
 use std::alloc::{AllocError, Global};
 use values::words::Written;
 
@@ -19,10 +19,7 @@ pub struct Trials {
 }
 
 fn contents(file: &Option<File>) -> Option<&[u8]> {
-    match file {
-        Some(file) => Some(file.bytes.as_slice()),
-        None => None,
-    }
+    file.as_ref().map(|file| file.bytes.as_slice())
 }
 
 impl Trials {
@@ -52,11 +49,18 @@ impl Trials {
         Ok(())
     }
 
+    // What is told of a table that may be missing.
+    fn told<K: Written>(&self, table: &Option<File>) -> Result<String, Unreported> {
+        let opened = open_table::<K>(self.heap, contents(table))?;
+        account(self.heap, &opened, contents(&self.list))
+    }
+
     // What is told of a table that may be missing is the text.
     pub fn says<K: Written>(&mut self, table: &Option<File>, text: &str) -> Result<(), AllocError> {
-        let told = match open_table::<K>(self.heap, contents(table))? {
-            Opening::Said(told) => told,
-            Opening::Opened(table) => account(self.heap, &table, contents(&self.list))?,
+        let told = match self.told::<K>(table) {
+            Ok(told) => told,
+            Err(Unreported::NoMemory(error)) => return Err(error),
+            Err(unreported) => unreported.to_string(self.heap)?,
         };
         self.compare(told.as_str(), text)
     }
@@ -84,7 +88,7 @@ impl Trials {
             Ok(_) => String::from_str(self.heap, "told")?,
             Err(past) => {
                 let len = source.len();
-                let refusal = past.refusal();
+                let refusal = Refusal::from(past);
                 format!(in self.heap; "length {len}, {refusal}")?
             }
         };
