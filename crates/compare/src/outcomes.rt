@@ -7,7 +7,7 @@ use crate::sequences::Sequence;
 use judging::judge::judge;
 use judging::judgment::Judgment;
 use judging::refusal::JudgeRefusal;
-use operations::refusals::Refused;
+use operations::refusal::Refusal;
 use operations::room::Room;
 use operations::row::Row;
 use std::alloc::{AllocError, Global};
@@ -86,7 +86,7 @@ fn outcome_of(answer: Result<Judgment, JudgeRefusal>) -> Outcome {
             writes: judgment.writes,
         },
         Err(refused) => {
-            let refusal = refused.refusal();
+            let refusal = Refusal::from(refused);
             Outcome::Refused(Fault {
                 number: refusal.number,
                 place: refusal.place,
