@@ -1,15 +1,10 @@
 -- The bytes of files. Assumes nothing.
-use Rattle.std.specs.Prelude.{ℕ, ◌+◌, ◌*◌, ◌%◌, ◌^◌, List, ◌++◌}
+use Rattle.std.specs.Prelude.{ℕ, ◌+◌, ◌*◌, ◌%◌, ◌^◌, ◌<◌, List, ◌++◌, length, slice_index_or}
 use Rattle.std.specs.Int.{w32, to_be_bytes}
 use Rattle.std.specs.List.{flat_map}
 use Rattle.operations.specs.declared.row.Row.{Row}
-use Rattle.operations.specs.declared.row.Sort.{Sort}
-use Rattle.operations.specs.declared.row.Sort.TheVariants.{Read, Write}
-
--- the kind of a record's first word
-abbrev pub head_kind : Sort → ℕ
-head_kind Read = 1
-head_kind Write = 2
+use Rattle.operations.specs.Rows.{AllValid}
+use Rattle.tables.specs.Records.{head_kind}
 
 -- the first word of a row's record: 2 bits kind, 6 bits bay, 6 bits cabinet, 18 bits pattern
 abbrev pub head : Row ℕ → ℕ
@@ -30,3 +25,7 @@ record_bytes row = to_be_bytes w32 (head row) ++ (to_be_bytes w32 (start_word ro
 -- the bytes of a table with a record for each row
 abbrev pub table_bytes : List (Row ℕ) → List ℕ
 table_bytes rows = flat_map record_bytes rows
+
+-- each row is an operation's, and its value a pattern of 18 bits
+abbrev pub Recordable : List (Row ℕ) → Type 0
+Recordable rows = AllValid rows × ((place : ℕ) (d : Row ℕ) → place < length rows → (slice_index_or rows place d).value < 2 ^ 18)

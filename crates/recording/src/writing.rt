@@ -1,7 +1,8 @@
 // Words and records in bytes.
-ghost use Rattle.std.specs.Prelude.{◌≡◌, ◌++◌, IfOk, OnOk};
+ghost use Rattle.std.specs.Prelude.{◌≡◌, ◌++◌, IfOk, OnOk, Some};
 ghost use Rattle.std.specs.Int.{w32, to_be_bytes};
-ghost use Rattle.recording.specs.Files.{head, record_bytes, table_bytes};
+ghost use Rattle.recording.specs.Files.{head, record_bytes, table_bytes, Recordable};
+ghost use Rattle.tables.specs.Records.{Shows};
 
 use operations::row::{Row, Sort};
 use std::alloc::{AllocError, Global};
@@ -40,7 +41,8 @@ fn push_record(file: &mut Vec<u8>, row: &Row<u32>) -> Result<(), AllocError>
 
 // The bytes of a table with a record for each row, whose value is a pattern.
 pub fn table(heap: Global, rows: &[Row<u32>]) -> Result<Vec<u8>, AllocError>
-    ensures { IfOk result (λ bytes. bytes.items ≡ table_bytes rows.now) }
+    ensures bytes { IfOk result (λ bytes. bytes.items ≡ table_bytes rows.now) }
+    ensures reads { IfOk result (λ bytes. Recordable rows.now → Shows Some bytes.items rows.now) }
 {
     let mut bytes = Vec::new(heap);
     for row in rows {
