@@ -39,33 +39,52 @@ impl Write {
             .map(|act| Write::of(act, acts))
             .collect(heap)
     }
-
-    // Whether this write keeps another out of its position in a sequence: a write edge goes to it from one that does not stand
-    // earlier, or a read edge from one that stands k or more positions after it.
-    fn bars(&self, member: &Write, position: usize, sequence: &Sequence, k: usize) -> bool {
-        let own = sequence.position(self.place);
-        let write_edge = self.finish < member.start;
-        let read_edge = member.last_read.is_some_and(|start| self.finish < start);
-        write_edge && own.is_none_or(|own| own >= position)
-            || read_edge && own.is_some_and(|own| own.saturating_sub(position) >= k)
-    }
-
-    // Whether this write does not stand in the sequence, or no write bars it from its position.
-    fn fits(&self, writes: &[Write], sequence: &Sequence, k: usize) -> bool {
-        sequence.position(self.place).is_none_or(|position| {
-            !writes
-                .iter()
-                .any(|write| write.bars(self, position, sequence, k))
-        })
-    }
 }
 
-// Whether the sequence is a run-up: all its members are writes of the bay, and each fits.
-fn is_run_up(writes: &[Write], sequence: &Sequence, k: usize) -> bool {
-    let members = writes
-        .iter()
-        .filter(|write| sequence.position(write.place).is_some());
-    members.count() == sequence.length && writes.iter().all(|write| write.fits(writes, sequence, k))
+// A sequence that is tried as a run-up for k, and the writes of the bay.
+#[derive(Clone, Copy)]
+struct Tried<'a> {
+    writes: &'a [Write],
+    sequence: &'a Sequence,
+    k: usize,
+}
+
+impl Tried<'_> {
+    fn position(&self, write: &Write) -> Option<usize> {
+        self.sequence.position(write.place)
+    }
+
+    // Whether a write keeps another out of its position: a write edge goes to it from one that does not stand earlier, or a read edge
+    // from one that stands k or more positions after it.
+    fn bars(&self, write: &Write, other: &Write, position: usize) -> bool {
+        let own = self.position(write);
+        let write_edge = write.finish < other.start;
+        let read_edge = other.last_read.is_some_and(|start| write.finish < start);
+        write_edge && own.is_none_or(|own| own >= position)
+            || read_edge && own.is_some_and(|own| own.saturating_sub(position) >= self.k)
+    }
+
+    // Whether a write does not stand in the sequence, or no write bars it from its position.
+    fn fits(&self, other: &Write) -> bool {
+        self.position(other).is_none_or(|position| !self
+            .writes
+            .iter()
+            .any(|write| self.bars(write, other, position)))
+    }
+
+    // Whether the sequence is a run-up: all its members are writes of the bay, and each fits.
+    fn is_run_up(&self) -> bool {
+        let members = self
+            .writes
+            .iter()
+            .filter(|write| self.position(write).is_some());
+        members.count() == self.sequence.length && self.writes.iter().all(|write| self.fits(write))
+    }
+
+    // Whether a run-up has all writes of the bay.
+    fn is_value_order(&self) -> bool {
+        self.sequence.length == self.writes.len()
+    }
 }
 
 // The least k that has a value order, the trials of all k up to it, and its first value order.
@@ -78,15 +97,19 @@ pub struct Found<'a> {
 
 impl<'a> Found<'a> {
     // Nothing is found where the bay has no write.
-    pub fn first(writes: &[Write], sequences: &'a [Sequence]) -> Option<Found<'a>> {
+    pub fn first(writes: &'a [Write], sequences: &'a [Sequence]) -> Option<Found<'a>> {
         let mut trials = 0u32;
         for k in 1..=MOST {
-            for order in sequences {
-                if is_run_up(writes, order, k) {
-                    trials = trials.saturating_add(1);
-                    if order.length == writes.len() {
-                        return Some(Found { k, trials, order });
-                    }
+            let tried = sequences.iter().map(|sequence| Tried {
+                writes,
+                sequence,
+                k,
+            });
+            for run_up in tried.filter(|tried| tried.is_run_up()) {
+                trials = trials.saturating_add(1);
+                if run_up.is_value_order() {
+                    let order = run_up.sequence;
+                    return Some(Found { k, trials, order });
                 }
             }
         }
