@@ -31,125 +31,114 @@ const STAMP: u32 = 0x1001;
 
 const RESENT: u32 = 0x2_1001;
 
+// A case of serials with the largest limit, and no operations.
+const SERIALS: Case = Case {
+    values: Values::Serials,
+    operations: &[],
+    limit: MOST,
+    said: "age 0 trials 0 order",
+};
+
 pub static CASES: [Case; 20] = [
+    SERIALS,
     Case {
-        values: Values::Serials,
-        operations: &[],
-        limit: MOST,
-        said: "age 0 trials 0 order",
-    },
-    Case {
-        values: Values::Serials,
         operations: &[W(1, 1, 2)],
-        limit: MOST,
         said: "age 0 trials 1 order 0",
+        ..SERIALS
     },
     Case {
-        values: Values::Serials,
         operations: &[W(1, 1, 2), R(1, 3, 4)],
-        limit: MOST,
         said: "age 1 trials 1 order 0",
+        ..SERIALS
     },
     Case {
-        values: Values::Serials,
         operations: &[W(1, 1, 2), W(2, 3, 4), R(1, 5, 6)],
-        limit: MOST,
         said: "age 2 trials 3 order 0 1",
+        ..SERIALS
     },
     Case {
-        values: Values::Serials,
         operations: &[W(1, 1, 2), W(2, 3, 4), R(1, 5, 6)],
         limit: 3,
         said: "age 2 trials 3 order 0 1",
+        ..SERIALS
     },
     Case {
-        values: Values::Serials,
         operations: &[W(1, 1, 2), W(2, 3, 4), R(1, 5, 6)],
         limit: 2,
         said: "refused 16 at 3 by judge",
+        ..SERIALS
     },
     Case {
-        values: Values::Serials,
         operations: &[W(1, 1, 2), W(2, 3, 4), W(3, 5, 6), R(1, 7, 8)],
-        limit: MOST,
         said: "age 3 trials 6 order 0 1 2",
+        ..SERIALS
     },
     Case {
-        values: Values::Serials,
         operations: &[W(1, 1, 4), W(2, 2, 5), R(1, 6, 7)],
-        limit: MOST,
         said: "age 1 trials 3 order 1 0",
+        ..SERIALS
     },
     Case {
-        values: Values::Serials,
         operations: &[W(1, 1, 4), W(2, 2, 5), R(1, 6, 7), R(2, 8, 9)],
-        limit: MOST,
         said: "age 2 trials 4 order 0 1",
+        ..SERIALS
     },
     Case {
-        values: Values::Serials,
         operations: &[W(1, 1, 9), R(1, 2, 3), W(2, 4, 5), R(1, 6, 7)],
-        limit: MOST,
         said: "age 2 trials 3 order 0 2",
+        ..SERIALS
     },
     Case {
-        values: Values::Serials,
         operations: &[W(1, 1, 2), W(2, 2, 3), R(1, 4, 5)],
-        limit: MOST,
         said: "age 1 trials 3 order 1 0",
+        ..SERIALS
     },
     Case {
-        values: Values::Serials,
         operations: &[W(1, 1, 2), W(2, 3, 3), R(1, 4, 5)],
-        limit: MOST,
         said: "age 2 trials 3 order 0 1",
+        ..SERIALS
     },
     Case {
-        values: Values::Serials,
         operations: &[R(1, 1, 2), W(1, 3, 4)],
-        limit: MOST,
         said: "refused 15 at 0 by judge",
+        ..SERIALS
     },
     Case {
-        values: Values::Serials,
         operations: &[R(1, 1, 3), W(1, 3, 4)],
-        limit: MOST,
         said: "age 1 trials 1 order 1",
+        ..SERIALS
     },
     Case {
-        values: Values::Serials,
         operations: &[W(1, 1, 2), W(1, 3, 4), R(2, 5, 6)],
-        limit: MOST,
         said: "refused 13 at 1 by judge",
+        ..SERIALS
     },
     Case {
-        values: Values::Serials,
         operations: &[W(1, 1, 2), R(2, 5, 6)],
-        limit: MOST,
         said: "refused 14 at 1 by judge",
+        ..SERIALS
     },
     Case {
-        values: Values::Serials,
         operations: &[W(1, 1, 2)],
         limit: 0,
         said: "refused 9 at 0 by judge",
+        ..SERIALS
     },
     Case {
-        values: Values::Serials,
         operations: &[W(1, 1, 2)],
         limit: 1_000_001,
         said: "refused 9 at 1000001 by judge",
+        ..SERIALS
     },
     Case {
         values: Values::Stamps,
         operations: &[W(STAMP, 1, 2), R(RESENT, 3, 4)],
-        limit: MOST,
         said: "age 1 trials 1 order 0",
+        ..SERIALS
     },
     Case {
-        values: Values::Serials,
         operations: &[W(STAMP, 1, 2), R(RESENT, 3, 4)],
-        limit: MOST,
         said: "refused 14 at 1 by judge",
+        ..SERIALS
     },
 ];

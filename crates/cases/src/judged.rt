@@ -1,58 +1,86 @@
 // What a judge says of a case.
-use crate::cases::{Case, Operation};
+use crate::cases::{Case, Operation, Values};
 use judging::judge::judge;
 use judging::judgment::Judgment;
-use operations::refusals::Refused;
+use operations::refusal::Refusal;
 use operations::room::Room;
+use operations::row::{Row, Sort};
+use recording::writing::table;
 use std::alloc::{AllocError, Global};
+use std::fmt;
 use tables::table::Table;
 use values::kind::Kind;
+use values::serial::Serial;
+use values::stamp::Stamp;
 
 // The bay of all cases.
-const BAY: u32 = 3;
+const BAY: u8 = 3;
 
-// The words of an operation's record.
-fn record(operation: &Operation) -> [u32; 3] {
-    let (head, start, finish) = match *operation {
-        Operation::W(value, start, finish) => (0x8300_0000 | value, start, finish),
-        Operation::R(value, start, finish) => (0x4300_0000 | value, start, finish),
-    };
-    [head, start, 0xc000_0000 | finish]
-}
-
-// The table of the operations.
-fn table_of(heap: Global, operations: &[Operation]) -> Result<Vec<u8>, AllocError> {
-    let mut bytes = Vec::new(heap);
-    for operation in operations {
-        for word in record(operation) {
-            bytes.extend_from_slice(&word.to_be_bytes())?;
+impl From<Operation> for Row<u32> {
+    fn from(operation: Operation) -> Row<u32> {
+        let (sort, value, start, finish) = match operation {
+            Operation::W(value, start, finish) => (Sort::Write, value, start, finish),
+            Operation::R(value, start, finish) => (Sort::Read, value, start, finish),
+        };
+        Row {
+            sort,
+            bay: BAY,
+            cabinet: 0,
+            value,
+            start,
+            finish,
         }
     }
-    Ok(bytes)
 }
 
-// As `age 2 trials 3 order 0 1`.
-fn found(heap: Global, judgment: &Judgment, sheet: &[usize]) -> Result<String, AllocError> {
-    let age = judgment.age;
-    let trials = judgment.trials;
-    let mut text = format!(in heap; "age {age} trials {trials} order")?;
-    for place in sheet.iter().take(judgment.writes) {
-        let word = format!(in heap; " {place}")?;
-        text.push_str(word.as_str())?;
+// A judgment and the sheet that it filled, as `age 2 trials 3 order 0 1`.
+#[derive(Drop)]
+struct Found<'a> {
+    judgment: Judgment,
+    sheet: &'a [usize],
+}
+
+impl fmt::Display for Found<'_> {
+    fn fmt<W: fmt::Write>(&self, f: &mut fmt::Formatter<W>) -> fmt::Result {
+        let age = self.judgment.age;
+        let trials = self.judgment.trials;
+        write!(f, "age {age} trials {trials} order")?;
+        for place in self.sheet.iter().take(self.judgment.writes) {
+            write!(f, " {place}")?;
+        }
+        Ok(())
     }
-    Ok(text)
 }
 
-// What a judge of the bay says, or its refusal.
-pub fn told<K: Kind>(heap: Global, case: &Case) -> Result<String, AllocError> {
-    let bytes = table_of(heap, case.operations)?;
-    let Ok(table) = Table::<K>::open(Room::new(heap)?, bytes.as_slice()) else {
-        return String::from_str(heap, "no table");
-    };
-    let mut sheet = [0usize; 64];
-    let mut working = Room::new(heap)?;
-    match judge(&table, BAY, case.limit, &mut sheet, &mut working) {
-        Ok(judgment) => found(heap, &judgment, &sheet),
-        Err(refused) => refused.refusal().to_string(heap),
+impl Case {
+    // What a judge of the bay says, or its refusal, with values of a kind.
+    fn told_of<K: Kind>(&self, heap: Global) -> Result<String, AllocError> {
+        let rows: Vec<Row<u32>> = self
+            .operations
+            .iter()
+            .copied()
+            .map(Row::from)
+            .collect(heap)?;
+        let bytes = table(heap, rows.as_slice())?;
+        let Ok(table) = Table::<K>::open(Room::new(heap)?, bytes.as_slice()) else {
+            return String::from_str(heap, "no table");
+        };
+        let mut sheet = [0usize; 64];
+        let mut working = Room::new(heap)?;
+        match judge(&table, u32::from(BAY), self.limit, &mut sheet, &mut working) {
+            Ok(judgment) => Found {
+                judgment,
+                sheet: &sheet,
+            }
+            .to_string(heap),
+            Err(refused) => Refusal::from(refused).to_string(heap),
+        }
+    }
+
+    pub fn told(&self, heap: Global) -> Result<String, AllocError> {
+        match self.values {
+            Values::Serials => self.told_of::<Serial>(heap),
+            Values::Stamps => self.told_of::<Stamp>(heap),
+        }
     }
 }

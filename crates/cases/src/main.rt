@@ -4,25 +4,26 @@
 mod cases;
 mod judged;
 
-use cases::{CASES, Values};
-use judged::told;
+use cases::CASES;
 use std::io;
-use values::serial::Serial;
-use values::stamp::Stamp;
 
 fn main(rt: HostRuntime) -> io::Result<()> {
-    let mut right = 0u32;
-    for case in &CASES {
-        let answer = match case.values {
-            Values::Serials => told::<Serial>(rt.alloc(), case)?,
-            Values::Stamps => told::<Stamp>(rt.alloc(), case)?,
-        };
-        if answer.as_str() == case.said {
-            right = right.saturating_add(1);
-        } else {
-            println!(rt; "wrong: {answer}")?;
-        }
+    let answers: Vec<String> = CASES
+        .iter()
+        .map(|case| case.told(rt.alloc()))
+        .try_collect(rt.alloc())?;
+    let wrong = CASES
+        .iter()
+        .zip(&answers)
+        .filter(|(case, answer)| answer.as_str() != case.said);
+    for (_, answer) in wrong {
+        println!(rt; "wrong: {answer}")?;
     }
+    let right = CASES
+        .iter()
+        .zip(&answers)
+        .filter(|(case, answer)| answer.as_str() == case.said)
+        .count();
     let count = CASES.len();
     println!(rt; "{right} right of {count}")
 }

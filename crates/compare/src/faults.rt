@@ -1,67 +1,37 @@
 // The faults of a bay, each at its lowest place.
 use crate::acts::Act;
+use judging::refusal::JudgeRefusal;
 
 // A write whose value an earlier write has.
 fn written_twice(acts: &[Act]) -> Option<usize> {
-    for act in acts {
-        for earlier in acts {
-            let is_earlier = earlier.place < act.place;
-            if is_earlier && earlier.writes() && act.writes() && earlier.value == act.value {
-                return Some(usize::from(act.place));
-            }
-        }
-    }
-    None
-}
-
-fn is_written(acts: &[Act], read: &Act) -> bool {
-    for act in acts {
-        if act.is_read_by(read) {
-            return true;
-        }
-    }
-    false
+    acts.iter().position(|act| {
+        acts.iter().take(act.place).any(|earlier| {
+            earlier.writes() && act.writes() && earlier.row.value == act.row.value
+        })
+    })
 }
 
 // A read whose value has no write.
 fn unwritten(acts: &[Act]) -> Option<usize> {
-    for act in acts {
-        if act.reads() && !is_written(acts, act) {
-            return Some(usize::from(act.place));
-        }
-    }
-    None
+    acts.iter().position(|read| read.reads() && !acts.iter().any(|write| write.is_read_by(read)))
 }
 
 // A read that is before its write.
 fn foreseen(acts: &[Act]) -> Option<usize> {
-    for act in acts {
-        for write in acts {
-            if write.is_read_by(act) && act.precedes(write) {
-                return Some(usize::from(act.place));
-            }
-        }
-    }
-    None
-}
-
-// A refusal's number and place.
-#[derive(Clone, Copy, PartialEq, Drop)]
-pub struct Fault {
-    pub number: u8,
-    pub place: usize,
+    acts.iter().position(|read| {
+        acts.iter()
+            .any(|write| write.is_read_by(read) && read.precedes(write))
+    })
 }
 
 // The refusal of a bay with a fault.
-pub fn lowest(acts: &[Act]) -> Option<Fault> {
+pub fn refusal(acts: &[Act]) -> Option<JudgeRefusal> {
     if let Some(place) = written_twice(acts) {
-        return Some(Fault { number: 13, place });
+        return Some(JudgeRefusal::WrittenTwice { place });
     }
     if let Some(place) = unwritten(acts) {
-        return Some(Fault { number: 14, place });
+        return Some(JudgeRefusal::Unwritten { place });
     }
-    if let Some(place) = foreseen(acts) {
-        return Some(Fault { number: 15, place });
-    }
-    None
+    let place = foreseen(acts)?;
+    Some(JudgeRefusal::Foreseen { place })
 }

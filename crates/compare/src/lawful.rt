@@ -1,59 +1,61 @@
 // The age of a bay by all lawful orders.
-use crate::acts::{Act, MOST};
+use crate::acts::Act;
 use crate::sequences::Sequence;
 
-// Whether each operation that is before another stands earlier, and so does the write of each read.
-fn is_lawful(acts: &[Act], order: &Sequence) -> bool {
-    for first in acts {
-        for second in acts {
-            let is_late = order.position(second.place) <= order.position(first.place);
-            if is_late && (first.precedes(second) || first.is_read_by(second)) {
-                return false;
-            }
-        }
-    }
-    true
+// The operations of a source, and a sequence of all their places. Where a source has fewer operations, what stands at the other
+// places does not matter.
+#[derive(Clone, Copy)]
+struct Order<'a> {
+    acts: &'a [Act],
+    sequence: &'a Sequence,
 }
 
-// The age of a read of the write.
-fn age(acts: &[Act], order: &Sequence, write: &Act, read: &Act) -> usize {
-    let early = order.position(write.place);
-    let late = order.position(read.place);
-    let mut age = 1usize;
-    for act in acts {
-        let position = order.position(act.place);
-        if act.writes() && early < position && position < late {
-            age = age.saturating_add(1);
-        }
+impl Order<'_> {
+    fn position(&self, act: &Act) -> Option<usize> {
+        self.sequence.position(act.place)
     }
-    age
+
+    // Whether one operation stands earlier than the other.
+    fn is_earlier(&self, first: &Act, second: &Act) -> bool {
+        self.position(first) < self.position(second)
+    }
+
+    // Whether each operation that is before another stands earlier, and so does the write of each read.
+    fn is_lawful(&self) -> bool {
+        self.acts.iter().all(|first| {
+            self.acts.iter().all(|second| {
+                let is_bound = first.precedes(second) || first.is_read_by(second);
+                !is_bound || self.is_earlier(first, second)
+            })
+        })
+    }
+
+    // The age of a read, if it is one.
+    fn age(&self, read: &Act) -> Option<usize> {
+        let write = self.acts.iter().find(|act| act.is_read_by(read))?;
+        let between = self.acts.iter().filter(|act| {
+            act.writes() && self.is_earlier(write, act) && self.is_earlier(act, read)
+        });
+        Some(between.count().saturating_add(1))
+    }
+
+    // The largest age of a read, or 0 without reads.
+    fn largest_age(&self) -> usize {
+        self.acts
+            .iter()
+            .filter_map(|act| self.age(act))
+            .max()
+            .unwrap_or(0)
+    }
 }
 
-// The largest age of a read, or 0 without reads.
-fn largest_age(acts: &[Act], order: &Sequence) -> usize {
-    let mut largest = 0usize;
-    for write in acts {
-        for read in acts {
-            if write.is_read_by(read) {
-                largest = largest.max(age(acts, order, write, read));
-            }
-        }
-    }
-    largest
-}
-
-// The least of the largest ages of all lawful orders, if there is one. The sequences of all places are the orders; where a source
-// has fewer operations, what stands at the other places does not matter.
+// The least of the largest ages of all lawful orders, if there is one.
 pub fn least_age(acts: &[Act], sequences: &[Sequence]) -> Option<usize> {
-    let mut least = None;
-    for order in sequences {
-        if usize::from(order.length) == MOST && is_lawful(acts, order) {
-            let largest = largest_age(acts, order);
-            least = match least {
-                Some(found) if found < largest => Some(found),
-                _ => Some(largest),
-            };
-        }
-    }
-    least
+    sequences
+        .iter()
+        .filter(|sequence| sequence.is_full())
+        .map(|sequence| Order { acts, sequence })
+        .filter(|order| order.is_lawful())
+        .map(|order| order.largest_age())
+        .min()
 }

@@ -1,68 +1,68 @@
 // All sequences of different places, in the order of run-ups.
+ghost use Rattle.std.specs.Option.{ForSome};
+ghost use Rattle.std.specs.Prelude.{◌≡◌, ◌+◌, ◌≤◌, ◌==◌};
+
 use crate::acts::MOST;
 use std::alloc::{AllocError, Global};
 
-// The position of a place that does not stand in a sequence, which is past every end.
-const ABSENT: u8 = 6;
-
-// How many places a sequence has, and the position of each place below 6.
-#[derive(Clone, Copy, Drop)]
+// How many places a sequence has, and the position of each place that stands in it.
+#[derive(Clone, Copy)]
 pub struct Sequence {
-    pub length: u8,
-    positions: [u8; MOST],
+    pub length: usize,
+    positions: [Option<usize>; MOST],
+    ghost few: { length ≤ 6 },
 }
 
 impl Sequence {
-    // The sequence of these places, of which each is one too high and 0 stands for the end; nothing where a place comes twice or
-    // something follows the end.
-    fn of(members: [usize; MOST]) -> Option<Sequence> {
-        let mut length = 0u8;
-        let mut positions = [ABSENT; MOST];
-        let mut ended = false;
-        for member in members {
-            if member == 0 {
-                ended = true;
-            } else {
-                let position = positions.get_mut(member - 1)?;
-                if ended || *position < ABSENT {
-                    return None;
-                }
-                *position = length;
-                length = length.saturating_add(1);
+    fn empty() -> Sequence {
+        Sequence {
+            length: 0,
+            positions: [None; MOST],
+        }
+    }
+
+    // Where a place stands, if it does.
+    pub fn position(&self, place: usize) -> Option<usize> {
+        *self.positions.get(place)?
+    }
+
+    // Whether all places stand in it.
+    pub fn is_full(&self) -> bool
+        ensures { result ≡ (self.now.length == 6) }
+    {
+        self.length == MOST
+    }
+
+    // The sequence that goes on with a place, where that does not stand in it.
+    fn with(&self, place: usize) -> Option<Sequence>
+        ensures { ForSome result (λ longer. longer.length ≡ self.now.length + 1) }
+    {
+        if self.is_full() || self.position(place).is_some() {
+            return None;
+        }
+        let mut positions = self.positions;
+        *positions.get_mut(place)? = Some(self.length);
+        Some(Sequence {
+            length: self.length + 1,
+            positions,
+        })
+    }
+
+    // Adds all that begin with this one to the sequences, by places at the first difference, each before those that it begins.
+    fn add_longer(&self, sequences: &mut Vec<Sequence>) -> Result<(), AllocError> {
+        for place in 0..MOST {
+            if let Some(longer) = self.with(place) {
+                sequences.push(longer)?;
+                longer.add_longer(sequences)?;
             }
         }
-        Some(Sequence { length, positions })
+        Ok(())
     }
-
-    // Where a place stands.
-    pub fn position(&self, place: u8) -> u8 {
-        match self.positions.get(usize::from(place)) {
-            Some(position) => *position,
-            None => ABSENT,
-        }
-    }
-}
-
-// The members at a turn of a counter that has a member for a digit. The first digit turns last and the end comes before any place,
-// so the turns go through the sequences by places at the first difference, each before those that it begins.
-fn members(turn: usize) -> [usize; MOST] {
-    [
-        turn / 16_807 % 7,
-        turn / 2_401 % 7,
-        turn / 343 % 7,
-        turn / 49 % 7,
-        turn / 7 % 7,
-        turn % 7,
-    ]
 }
 
 // All sequences but the empty one.
 pub fn all(heap: Global) -> Result<Vec<Sequence>, AllocError> {
     let mut sequences = Vec::new(heap);
-    for turn in 1..117_649 {
-        if let Some(sequence) = Sequence::of(members(turn)) {
-            sequences.push(sequence)?;
-        }
-    }
+    Sequence::empty().add_longer(&mut sequences)?;
     Ok(sequences)
 }

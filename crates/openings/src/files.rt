@@ -1,4 +1,5 @@
 // Files to try.
+use recording::writing::push_word;
 use std::alloc::{AllocError, Global};
 
 // The words of a record: a write of serial 1, or of the stamp of cabinet 0 and count 1, in bay 3 from tick 1 to 2.
@@ -48,7 +49,7 @@ impl File {
     }
 
     pub fn push(&mut self, word: u32) -> Result<(), AllocError> {
-        self.bytes.extend_from_slice(&word.to_be_bytes())
+        push_word(&mut self.bytes, word)
     }
 
     pub fn push_all(&mut self, words: &[u32]) -> Result<(), AllocError> {

@@ -1,0 +1,4 @@
+// Files of words, written as they are read.
+#![tactic(auto)]
+
+pub mod writing;
