@@ -2,24 +2,37 @@
 ghost use Rattle.std.specs.Prelude.{◌≡◌, ◌+◌, ◌*◌, ◌≤◌, length, MatchOption, ◌≢◌};
 ghost use Rattle.words.specs.Rows.{bytes_of, sort_of, pattern_row};
 ghost use Rattle.words.specs.Reading.{Handed, HandedBay};
-ghost use Rattle.words.specs.Words.{word};
+ghost use Rattle.words.specs.Kinds.{kind_number};
+ghost use Rattle.words.specs.Words.{kind, word};
 
 use crate::layout;
 use crate::record::Record;
 use crate::refusal::WrongKind;
 use operations::row::{Row, Sort};
 
-// The kinds of a record's words: the first, which tells a read from a write, the start and the finish.
-const READ: u32 = 1;
+// What a word's top two bits tell of it.
+#[derive(Clone, Copy, PartialEq)]
+enum WordKind {
+    // The start of a record, or a bay of a list.
+    Plain,
+    // The first word of a record that is a read.
+    Read,
+    // The first word of one that is a write.
+    Write,
+    // The finish of a record.
+    Finish,
+}
 
-const WRITE: u32 = 2;
-
-const START: u32 = 0;
-
-const FINISH: u32 = 3;
-
-// The kind of a list's words.
-const BAY: u32 = 0;
+fn kind_of(word: u32) -> WordKind
+    ensures { kind_number result ≡ kind word }
+{
+    match word >> 30 {
+        0 => WordKind::Plain,
+        1 => WordKind::Read,
+        2 => WordKind::Write,
+        _ => WordKind::Finish,
+    }
+}
 
 // Reads the words of a file from its first on; `word` is the next.
 #[derive(Drop)]
@@ -56,23 +69,20 @@ impl<'a> WordReader<'a> {
         if bytes.len() - layout::WORD * first < layout::RECORD {
             return Ok(None);
         }
-        let kind = word_at(bytes, first) >> 30;
-        if kind != READ && kind != WRITE {
-            return Err(WrongKind { word: first });
-        }
-        if word_at(bytes, first + 1) >> 30 != START {
+        let part = &bytes[layout::WORD * first..layout::WORD * first + layout::RECORD];
+        let record = match kind_of(word_at(bytes, first)) {
+            WordKind::Read => Record::Read(part),
+            WordKind::Write => Record::Write(part),
+            _ => return Err(WrongKind { word: first }),
+        };
+        if kind_of(word_at(bytes, first + 1)) != WordKind::Plain {
             return Err(WrongKind { word: first + 1 });
         }
-        if word_at(bytes, first + 2) >> 30 != FINISH {
+        if kind_of(word_at(bytes, first + 2)) != WordKind::Finish {
             return Err(WrongKind { word: first + 2 });
         }
         self.word = first + 3;
-        let part = &bytes[layout::WORD * first..layout::WORD * first + layout::RECORD];
-        if kind == READ {
-            Ok(Some(Record::Read(part)))
-        } else {
-            Ok(Some(Record::Write(part)))
-        }
+        Ok(Some(record))
     }
 
     // The next bay of a list, or nothing where fewer bytes are left than a word has.
@@ -86,7 +96,7 @@ impl<'a> WordReader<'a> {
             return Ok(None);
         }
         let word = word_at(bytes, first);
-        if word >> 30 != BAY {
+        if kind_of(word) != WordKind::Plain {
             return Err(WrongKind { word: first });
         }
         self.word = first + 1;
