@@ -4,110 +4,74 @@
 ghost use Rattle.orders.specs.Claims.{ValueOrdersAreLawfulOrders, TryingEnds, TriedIsLeastAge, UnreadIsLeastAge, LawfulOrdersExist, BaysCombine, OrdersRestrict, LargestIsLeastAge, NothingIsLeastAge, ListingHoldsRunUps, ListingGivesTrials, ListingGivesFirst, ListingGivesTried, BayIsTried, TrialsAreUnique, FirstIsUnique, TriedIsUnique};
 ghost use Rattle.orders.specs.Cases.{CasesHold};
 
-pub fn value_orders_are_lawful_orders() -> u8
+pub fn value_orders_are_lawful_orders()
     ensures { ValueOrdersAreLawfulOrders }
-{
-    0
-}
+{}
 
-pub fn trying_ends() -> u8
+pub fn trying_ends()
     ensures { TryingEnds }
-{
-    0
-}
+{}
 
-pub fn tried_is_least_age() -> u8
+pub fn tried_is_least_age()
     ensures { TriedIsLeastAge }
-{
-    0
-}
+{}
 
-pub fn unread_is_least_age() -> u8
+pub fn unread_is_least_age()
     ensures { UnreadIsLeastAge }
-{
-    0
-}
+{}
 
-pub fn lawful_orders_exist() -> u8
+pub fn lawful_orders_exist()
     ensures { LawfulOrdersExist }
-{
-    0
-}
+{}
 
-pub fn bays_combine() -> u8
+pub fn bays_combine()
     ensures { BaysCombine }
-{
-    0
-}
+{}
 
-pub fn orders_restrict() -> u8
+pub fn orders_restrict()
     ensures { OrdersRestrict }
-{
-    0
-}
+{}
 
-pub fn largest_is_least_age() -> u8
+pub fn largest_is_least_age()
     ensures { LargestIsLeastAge }
-{
-    0
-}
+{}
 
-pub fn nothing_is_least_age() -> u8
+pub fn nothing_is_least_age()
     ensures { NothingIsLeastAge }
-{
-    0
-}
+{}
 
-pub fn listing_holds_run_ups() -> u8
+pub fn listing_holds_run_ups()
     ensures { ListingHoldsRunUps }
-{
-    0
-}
+{}
 
-pub fn listing_gives_trials() -> u8
+pub fn listing_gives_trials()
     ensures { ListingGivesTrials }
-{
-    0
-}
+{}
 
-pub fn listing_gives_first() -> u8
+pub fn listing_gives_first()
     ensures { ListingGivesFirst }
-{
-    0
-}
+{}
 
-pub fn listing_gives_tried() -> u8
+pub fn listing_gives_tried()
     ensures { ListingGivesTried }
-{
-    0
-}
+{}
 
-pub fn bay_is_tried() -> u8
+pub fn bay_is_tried()
     ensures { BayIsTried }
-{
-    0
-}
+{}
 
-pub fn trials_are_unique() -> u8
+pub fn trials_are_unique()
     ensures { TrialsAreUnique }
-{
-    0
-}
+{}
 
-pub fn first_is_unique() -> u8
+pub fn first_is_unique()
     ensures { FirstIsUnique }
-{
-    0
-}
+{}
 
-pub fn tried_is_unique() -> u8
+pub fn tried_is_unique()
     ensures { TriedIsUnique }
-{
-    0
-}
+{}
 
-pub fn cases_hold() -> u8
+pub fn cases_hold()
     ensures { CasesHold }
-{
-    0
-}
+{}
