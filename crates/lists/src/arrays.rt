@@ -18,7 +18,7 @@ impl<T: Copy, const PLACES: usize> ArrayList<T, PLACES> {
     pub fn len(&self) -> usize
         ensures { result ≡ length (listed self.now) }
     {
-        self.len
+        self.as_slice().len()
     }
 
     pub fn is_empty(&self) -> bool

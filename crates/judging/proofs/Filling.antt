@@ -1,18 +1,6 @@
--- Lists that are filled one element at a time. Assumes nothing.
-use Rattle.std.proofs.Common.{◌≡◌, ℕ, zero, suc, ◌+◌, ◌<◌, ◌≤◌, List, [], ◌∷◌, ◌++◌, length, get_or, take, drop, set, sym, refl, ap, ◌∙◌, ap₂, append_assoc, append-nil, le_of_suc-le-suc, add-one, arith, length-append, length-drop, length-take}
+-- A list that is filled one element at a time. Assumes nothing.
+use Rattle.std.proofs.Common.{◌≡◌, ℕ, zero, suc, ◌+◌, ◌<◌, ◌≤◌, List, [], ◌∷◌, ◌++◌, length, get_or, take, drop, set, sym, refl, ap, ◌∙◌, ap₂, le_of_suc-le-suc, add-one, arith, length-append, length-drop, length-take}
 use Rattle.std.proofs.lemmas.List.{take_all}
-
--- a pass: what is copied and what is still to come are the whole
-module _ {X : Type 0} (copied coming whole : List X) (joined : copied ++ coming ≡ whole) where
-  pub copy_more : (longer rest : List X) (x y : X) → coming ≡ x ∷ rest → y ≡ x → longer ≡ copied ++ (y ∷ []) → longer ++ rest ≡ whole
-  copy_more longer rest x y c e l =
-      ap (λ z. z ++ rest) (l ∙ ap (λ z. copied ++ (z ∷ [])) e) ∙ append_assoc copied (x ∷ []) rest ∙ ap (λ z. copied ++ z) (sym c) ∙ joined
-
-  pub copy_fits : (rest : List X) (x : X) → coming ≡ x ∷ rest → length copied < length whole
-  copy_fits rest x c = omega (arith, ap length joined, length-append copied coming, ap length c)
-
-  pub copy_all : coming ≡ [] → copied ≡ whole
-  copy_all c = sym (append-nil copied) ∙ ap (λ z. copied ++ z) (sym c) ∙ joined
 
 fill_at : (a b : List ℕ) (i : ℕ) → i < length a → length a ≤ length b → set (take i a ++ drop i b) i (get_or a i 0) ≡ take (suc i) a ++ drop (suc i) b
 fill_at [] b i h l = absurd (omega arith)
