@@ -1,7 +1,7 @@
 use Rattle.std.proofs.Common.{[], ◌∷◌, ◌++◌, length, get_or, take, sym, ap, ◌∙◌, append_assoc, arith}
 use Rattle.std.proofs.lemmas.List.{length-append, length-take-le, take_more, take_all}
 use Rattle.operations.specs.Rooms.{held}
-use Rattle.surveying.proofs.crane.extend.Goals as goal
+use Rattle.surveying.proofs.keeping.extend.Goals as goal
 
 pub unreachable-requires : goal.unreachable-requires
 unreachable-requires c =
