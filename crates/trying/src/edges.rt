@@ -19,10 +19,7 @@ pub(crate) struct Tables {
 fn before_last(finish: u32, last: Option<u32>) -> bool
     ensures { result ≡ before_last finish last }
 {
-    match last {
-        Some(start) => finish < start,
-        None => false,
-    }
+    last.is_some_and(|start| finish < start)
 }
 
 // Whether the write of one rank has a read edge to that of another.
