@@ -5,7 +5,7 @@ use Rattle.values.specs.declared.serial.Serial.{Serial}
 use Rattle.operations.specs.declared.row.Row.{Row}
 use Rattle.tables.specs.Records.{Shows}
 use Rattle.judging.specs.Judging.{Reported}
-use Rattle.judging.specs.Meanings.{told}
+use Rattle.relations.specs.Meanings.{told}
 use Rattle.judging.specs.declared.judgment.Judgment.{Judgment}
 
 -- a report is the judge's of the rows that the table shows; where there is none the sheet is as it was

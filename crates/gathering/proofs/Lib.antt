@@ -1,6 +1,7 @@
-mod Written
+mod Ranked
 mod Lows
 mod Wrote
 mod Spanned
 mod Seen
 mod Noted
+pub mod Spared

@@ -1,5 +1,5 @@
 -- The lowest place that passes a test, one place more at a time. Assumes nothing.
-use Rattle.std.proofs.Common.{◌≡◌, ℕ, ◌+◌, ◌<◌, Bool, true, false, Some, None, Option, sym, ◌∙◌, arith, below_more}
+use Rattle.std.proofs.Common.{◌≡◌, ℕ, ◌+◌, Bool, true, false, Some, None, Option, arith, below_more}
 use Rattle.std.specs.Option.{option_or}
 use Rattle.bays.specs.Faults.{Lowest}
 
@@ -12,8 +12,3 @@ module _ (test : ℕ → Bool) (n : ℕ) where
   pub lowest_no : (first : Option ℕ) → Lowest n test first → test n ≡ false → Lowest (n + 1) test first
   lowest_no (Some p) l e = (omega (arith, l.0), l.1, l.2)
   lowest_no None l e = below_more _ n l e
-
--- tests that agree
-pub lowest_as : (n : ℕ) (f g : ℕ → Bool) (first : Option ℕ) → ((p : ℕ) → p < n → f p ≡ g p) → Lowest n f first → Lowest n g first
-lowest_as n f g (Some p) h l = (l.0, sym (h p l.0) ∙ l.1, λ q k. sym (h q (omega (arith, l.0))) ∙ l.2 q k)
-lowest_as n f g None h l = λ q k. sym (h q k) ∙ l q k

@@ -1,18 +1,14 @@
 // One bay.
-ghost use Rattle.std.specs.Prelude.{◌≤◌, length};
-ghost use Rattle.operations.specs.Rooms.{held};
-
 use crate::faults::Faults;
-use crate::write::Write;
-use operations::room::Room;
+use crate::write::{MOST_WRITES, Write};
+use lists::ArrayList;
 
-// What is gathered of a bay. It is memory too: gathering another bay takes its place.
-#[derive(Drop)]
-pub struct Bay<V> {
+// What is gathered of a bay.
+#[derive(Clone, Copy)]
+pub struct Bay {
     // Its writes, in ascending place. Where a write stands among them is its rank.
-    pub writes: Room<Write<V>>,
+    pub writes: ArrayList<Write, MOST_WRITES>,
     // Whether it has a read.
     pub read: bool,
     pub faults: Faults,
-    ghost few: { length (held writes) ≤ 64 },
 }

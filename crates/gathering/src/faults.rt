@@ -1,7 +1,8 @@
 // The faults of a bay's operations.
+ghost use Rattle.gathering.specs.Faults.{Spares};
 
 // The lowest place of each fault, where an operation of the bay has it.
-#[derive(Clone, Copy)]
+#[derive(Clone, Copy, Default)]
 pub struct Faults {
     // A write whose value an earlier write of its bay has.
     pub written_twice: Option<usize>,
@@ -9,6 +10,32 @@ pub struct Faults {
     pub unwritten: Option<usize>,
     // A read that is before its write.
     pub foreseen: Option<usize>,
+}
+
+// Why an operation keeps its bay from being judged, and the operation's place.
+#[derive(Clone, Copy, PartialEq)]
+pub enum Fault {
+    WrittenTwice { place: usize },
+    Unwritten { place: usize },
+    Foreseen { place: usize },
+}
+
+impl Faults {
+    // Refuses where there is a fault: each is looked for before the next one.
+    pub fn spare(&self) -> Result<(), Fault>
+        ensures { Spares self.now result }
+    {
+        if let Some(place) = self.written_twice {
+            return Err(Fault::WrittenTwice { place });
+        }
+        if let Some(place) = self.unwritten {
+            return Err(Fault::Unwritten { place });
+        }
+        if let Some(place) = self.foreseen {
+            return Err(Fault::Foreseen { place });
+        }
+        Ok(())
+    }
 }
 
 // A bay with more than 64 writes.

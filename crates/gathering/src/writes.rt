@@ -1,86 +1,88 @@
 // The writes of a bay, one operation after another.
-ghost use Rattle.std.specs.Prelude.{◌≡◌, length, MatchOption, MatchResult};
+ghost use Rattle.std.specs.Prelude.{◌≡◌, ◌<◌, length};
+ghost use Rattle.orders.specs.Orders.{at};
 ghost use Rattle.bays.specs.Faults.{Lowest};
-ghost use Rattle.operations.specs.Rooms.{held};
-ghost use Rattle.gathering.specs.Writes.{same_value, later, read_by, WriteAdded, ReadAdded};
+ghost use Rattle.lists.specs.Lists.{listed};
+ghost use Rattle.relations.specs.Meanings.{meant, told};
+ghost use Rattle.gathering.specs.Writes.{same_value, later, read_by, PlacesBelow, WriteAdded, ReadAdded};
 
 use crate::faults::TooManyWrites;
-use crate::write::Write;
-use operations::room::Room;
+use crate::write::{MOST_WRITES, Write};
+use lists::ArrayList;
 use operations::row::Row;
-use relations::{alike, before};
+use relations::alike;
 use values::kind::Kind;
 
-// How many writes a bay may have.
-const MOST_WRITES: usize = 64;
-
-impl<V: Kind> Write<V> {
+impl Write {
     // The write as one more read leaves it.
-    pub(crate) fn read_by(self, read: Row<V>) -> Write<V>
-        ensures { result ≡ read_by self read }
+    fn read_by<V: Kind>(self, read: &Row<V>) -> Write
+        ensures { result ≡ read_by self (meant V.Kind.meaning read.now) }
     {
         Write {
-            place: self.place,
-            row: self.row.finished_at(read.finish.min(self.row.finish)),
-            last_read: Some(later(self.last_read, read)),
+            finish: read.finish.min(self.finish),
+            last_read: Some(later(self.last_read, read.start)),
+            ..self
         }
     }
 }
 
-fn later<V: Kind>(held: Option<Row<V>>, read: Row<V>) -> Row<V>
-    ensures { result ≡ later held read }
+fn later(held: Option<u32>, start: u32) -> u32
+    ensures { result ≡ later held start }
 {
     match held {
-        Some(last) if read.start <= last.start => last,
-        _ => read,
+        Some(last) if start <= last => last,
+        _ => start,
     }
 }
 
-// The lowest rank of a write of the row's bay and value.
-pub(crate) fn rank_of<V: Kind>(writes: &[Write<V>], row: &Row<V>) -> Option<usize>
-    ensures { Lowest (length writes.now) (same_value V.Kind.meaning writes.now row.now) result }
+// The lowest rank of a write of the bay and value of the row at a place.
+fn rank_of<V: Kind>(rows: &[Row<V>], writes: &[Write], place: usize) -> Option<usize>
+    requires { (PlacesBelow (length rows.now) writes.now) × (place < length rows.now) }
+    ensures { Lowest (length writes.now) (same_value (told V.Kind.meaning rows.now) writes.now place) result }
 {
     for (rank, write) in writes.iter().enumerate() {
-        if alike(&write.row, row) {
+        if alike(&rows[write.place], &rows[place]) {
             return Some(rank);
         }
     }
     None
 }
 
-// Adds a write of the bay, and tells whether an earlier one has its value.
+// Adds the write at a place, and tells whether an earlier one has its value.
 pub(crate) fn add_write<V: Kind>(
-    writes: &mut Room<Write<V>>,
+    rows: &[Row<V>],
+    writes: &mut ArrayList<Write, MOST_WRITES>,
     place: usize,
-    row: &Row<V>,
 ) -> Result<bool, TooManyWrites>
-    ensures { WriteAdded V.Kind.meaning (held writes.old) place row.now (held writes.new) result }
+    requires { (PlacesBelow (length rows.now) (listed writes.old)) × (place < length rows.now) }
+    ensures { WriteAdded (told V.Kind.meaning rows.now) (listed writes.old) place (listed writes.new) result }
 {
-    if writes.len() >= MOST_WRITES {
-        return Err(TooManyWrites);
-    }
-    let twice = rank_of(writes.as_slice(), row).is_some();
+    let twice = rank_of(rows, writes.as_slice(), place).is_some();
+    let row = &rows[place];
     let write = Write {
         place,
-        row: *row,
+        start: row.start,
+        finish: row.finish,
         last_read: None,
     };
-    let Ok(()) = writes.push(write) else {
-        unreachable()
-    };
+    writes.push(write).map_err(|_| TooManyWrites)?;
     Ok(twice)
 }
 
-// Adds a read of the bay to the first write of its value, where there is one, and tells whether the read is before it.
-pub(crate) fn add_read<V: Kind>(writes: &mut Room<Write<V>>, row: &Row<V>) -> Option<bool>
-    ensures { ReadAdded V.Kind.meaning (held writes.old) row.now (held writes.new) result }
+// Adds the read at a place to the first write of its value, where there is one, and tells whether the read is before it.
+pub(crate) fn add_read<V: Kind>(
+    rows: &[Row<V>],
+    writes: &mut ArrayList<Write, MOST_WRITES>,
+    place: usize,
+) -> Option<bool>
+    requires { (PlacesBelow (length rows.now) (listed writes.old)) × (place < length rows.now) }
+    ensures { ReadAdded (told V.Kind.meaning rows.now) (listed writes.old) place (listed writes.new) result }
 {
-    let Some(rank) = rank_of(writes.as_slice(), row) else {
-        return None;
-    };
+    let rank = rank_of(rows, writes.as_slice(), place)?;
+    let read = &rows[place];
     let write = writes.as_slice()[rank];
-    let foreseen = before(row, &write.row);
-    let Ok(()) = writes.set(rank, write.read_by(*row)) else {
+    let foreseen = read.finish < write.start;
+    let Ok(()) = writes.set(rank, write.read_by(read)) else {
         unreachable()
     };
     Some(foreseen)

@@ -1,11 +1,3 @@
-pub mod Passing
-pub mod Gathered
-pub mod Ranks
-pub mod Faulty
-pub mod Spanned
-pub mod Tabled
-pub mod Tried
-pub mod Passes
-pub mod Checked
-pub mod RowsJudged
-pub mod Reporting
+mod Filling
+mod Found
+mod Reporting

@@ -1,38 +1,21 @@
 -- What a judge reports and refuses, from what is found of the rows. Assumes nothing.
-use Rattle.std.proofs.Common.{◌≡◌, ℕ, ◌<◌, ◌≤◌, Bool, true, false, cond, not, ◌&&◌, leb, ◌⊎◌, List, ◌∷◌, ◌++◌, length, take, drop, Some, Ok, Err, sym, refl, ap, ◌∙◌, subst, inl, inr, arith}
-use Rattle.std.proofs.lemmas.List.{length-take-le}
-use Rattle.std.proofs.lemmas.Bool.{cond-true, cond-false, le-leb, lt-leb, lt-ltb, and_from, and_left, and_right}
+use Rattle.std.proofs.Common.{◌≡◌, ℕ, ◌<◌, ◌≤◌, Bool, false, ◌&&◌, leb, ◌⊎◌, List, ◌∷◌, ◌++◌, length, drop, Some, Ok, Err, sym, refl, ap, ◌∙◌, inl, inr, arith}
+use Rattle.std.proofs.lemmas.Bool.{cond-true, cond-false, le-leb, lt-leb, and_from, and_left, and_right}
+use Rattle.bays.proofs.Ages.{least_age}
+use Rattle.bays.proofs.Passing.{some_tally}
+use Rattle.lists.specs.Lists.{listed}
 use Rattle.operations.specs.Checks.{first_failed}
 use Rattle.operations.specs.Refusals.{refusal}
 use Rattle.operations.specs.declared.refusal.Layer.TheVariants.{Judge}
 use Rattle.operations.specs.declared.refusal.Refusal.{Refusal}
-use Rattle.orders.specs.Claims.{Judgeable, a_read}
-use Rattle.orders.specs.Orders.{Operation, at, of_bay, among, writes, write_of, LeastAge}
-use Rattle.orders.specs.Places.{some}
-use Rattle.orders.proofs.LeastAges.{bay_age, unread_is_least_age, value_orders_are_lawful_orders}
-use Rattle.orders.proofs.Operations.{source_writes}
-use Rattle.judging.specs.declared.order.BayOrder.{BayOrder}
+use Rattle.orders.specs.Orders.{Operation, writes}
+use Rattle.orders.proofs.LeastAges.{value_orders_are_lawful_orders}
+use Rattle.trying.specs.declared.order.BayOrder.{BayOrder}
 use Rattle.judging.specs.declared.refusal.JudgeRefusal.{JudgeRefusal}
 use Rattle.judging.specs.declared.refusal.JudgeRefusal.TheVariants.{NoBay, NoLimit, ShortSheet, TooMany}
 use Rattle.judging.specs.Checks.{bay_checks, judge_checks}
-use Rattle.judging.specs.Judging.{has_read, BayJudged, idle, tried, Judged}
-use Rattle.judging.specs.Trying.{RowsJudged}
-use Rattle.judging.proofs.Passing.{some_eq, some_tally, tally_some}
-
--- a bay has a read where it has a place that holds one
-read_same : (ops : List Operation) (b : ℕ) → some (length ops) (a_read ops b) ≡ has_read ops b
-read_same ops b = some_eq (length ops) (a_read ops b) (λ p. of_bay b (at ops p) && not (at ops p).write) (λ p h. ap (λ t. (t && of_bay b (at ops p)) && not (at ops p).write) (lt-ltb p (length ops) h))
-
--- the age of a judged bay is the least
-least_age : (ops : List Operation) (b age trials : ℕ) (order : List ℕ) → Judgeable ops (of_bay b) → BayJudged ops b age trials order → LeastAge ops (of_bay b) age
-least_age ops b age trials order j (idle none a t o) = subst (LeastAge ops (of_bay b)) (sym a) (unread_is_least_age ops b j.timed (λ p h. only p h (at ops p).write refl))
-  where
-    only : (p : ℕ) → among ops (of_bay b) p ≡ true → (t : Bool) → (at ops p).write ≡ t → (at ops p).write ≡ true
-    only p h true e = e
-    only p h false e =
-        let w = source_writes ops b p h (j.sourced p h e) in
-        absurd (omega (arith, none, tally_some (length ops) (writes ops b) (write_of ops (at ops p)) (j.sourced p h e) w))
-least_age ops b age trials order j (tried k some t a) = subst (LeastAge ops (of_bay b)) (ap (λ c. cond c k 0) (read_same ops b) ∙ sym a) (bay_age ops b k trials order j t)
+use Rattle.judging.specs.Judging.{Judged}
+use Rattle.judging.specs.Rows.{RowsJudged}
 
 module _ (ops : List Operation) (b limit : ℕ) (sheet : List ℕ) where
   -- the checks from each on
@@ -83,14 +66,14 @@ module _ (ops : List Operation) (b limit : ℕ) (sheet : List ℕ) where
           refused e (inr f) = (refl, inr (past_11 ∙ f.0, f.1, f.2))
 
           -- and a report
-          pub reported : (o : BayOrder) (filled : List ℕ) → RowsJudged ops b limit (Ok o) → filled ≡ take o.writes o.places ++ drop (length (take o.writes o.places)) sheet → Judged ops b limit sheet filled (Ok (record { age = o.age; trials = o.trials; writes = o.writes }))
+          pub reported : (o : BayOrder) (filled : List ℕ) → RowsJudged ops b limit (Ok o) → filled ≡ listed o.places ++ drop (length (listed o.places)) sheet → Judged ops b limit sheet filled (Ok (record { age = o.age; trials = o.trials; writes = length (listed o.places) }))
           reported o filled j f = record {
-            order = take o.writes o.places;
+            order = listed o.places;
             passed = past_11 ∙ j.0;
             judged = j.2.0;
             within = j.2.1;
             writes = j.2.2;
-            filled = f ∙ ap (λ n. take o.writes o.places ++ drop n sheet) (length-take-le o.writes o.places (omega (arith, o.wide, o.few)));
-            least = least_age ops b o.age o.trials (take o.writes o.places) j.1 j.2.0;
+            filled = f;
+            least = least_age ops b o.age o.trials (listed o.places) j.1 j.2.0;
             orders = λ k h w. let x = some_tally (length ops) (writes ops b) w in value_orders_are_lawful_orders ops b k x.0 j.1 x.2 h;
           }

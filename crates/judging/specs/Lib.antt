@@ -1,10 +1,4 @@
-pub mod Meanings
-pub mod Gathering
-pub mod Bays
 pub mod Refusals
 pub mod Checks
-pub mod Faults
-pub mod Spans
-pub mod Tables
 pub mod Judging
-pub mod Trying
+pub mod Rows

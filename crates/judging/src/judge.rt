@@ -1,27 +1,20 @@
 // The judge of one bay of a source.
-ghost use Rattle.std.specs.Prelude.{◌≡◌, ◌≤◌, Some, None, MatchResult};
-ghost use Rattle.operations.specs.Checks.{first_failed};
+ghost use Rattle.std.specs.Prelude.{◌≤◌};
 ghost use Rattle.operations.specs.Rows.{AllValid};
-ghost use Rattle.operations.specs.declared.refusal.Layer.TheVariants.{Judge};
-ghost use Rattle.orders.specs.Orders.{of_bay};
-ghost use Rattle.judging.specs.Bays.{bay_operations};
-ghost use Rattle.judging.specs.Checks.{value_checks};
-ghost use Rattle.judging.specs.Faults.{Faultless};
+ghost use Rattle.relations.specs.Meanings.{told};
 ghost use Rattle.judging.specs.Judging.{Judged};
-ghost use Rattle.judging.specs.Meanings.{told};
-ghost use Rattle.judging.specs.Refusals.{judge_refusal};
-ghost use Rattle.judging.specs.Trying.{RowsJudged};
+ghost use Rattle.judging.specs.Rows.{RowsJudged};
 
-use crate::bay::Bay;
-use crate::copying::copy;
-use crate::fault::Fault;
 use crate::judgment::Judgment;
-use crate::order::BayOrder;
 use crate::refusal::JudgeRefusal;
 use crate::sheet::fill;
+use gathering::bay::Bay;
+use operations::copying::copy;
 use operations::room::Room;
 use operations::row::Row;
 use operations::source::Source;
+use trying::judge::judge_bay;
+use trying::order::BayOrder;
 use values::kind::Kind;
 
 // The last bay.
@@ -65,43 +58,22 @@ pub fn judge<S: Source>(
         unreachable()
     };
     let found = judge_rows(room.as_slice(), bay, limit)?;
-    fill(sheet, &found.places[..found.writes]);
+    fill(sheet, found.places.as_slice());
     Ok(Judgment {
         age: found.age,
         trials: found.trials,
-        writes: found.writes,
+        writes: found.places.len(),
     })
 }
 
+// Judges one bay of the rows.
 fn judge_rows<V: Kind>(rows: &[Row<V>], bay: u32, limit: u32) -> Result<BayOrder, JudgeRefusal>
     requires { (bay ≤ 63) × (AllValid rows.now) }
     ensures { RowsJudged (told V.Kind.meaning rows.now) bay limit result }
 {
-    let Some(judged) = Bay::of(rows, bay as u8) else {
+    let Ok(gathered) = Bay::gather(rows, bay as u8) else {
         return Err(JudgeRefusal::TooManyWrites { bay });
     };
-    spare(&judged)?;
-    match judged.judge(limit) {
-        Ok(order) => Ok(order),
-        Err(_) => Err(JudgeRefusal::OverLimit { bay }),
-    }
-}
-
-// Refuses a bay with a fault. Each fault is looked for at every place before the next one.
-fn spare<V: Kind>(bay: &Bay<V>) -> Result<(), JudgeRefusal>
-    ensures { MatchResult result
-        (λ _. (first_failed (value_checks (bay_operations V.Kind.meaning bay.now) (of_bay bay.now.number) Judge) ≡ None)
-        × Faultless (bay_operations V.Kind.meaning bay.now) bay.now.number)
-        (λ e. first_failed (value_checks (bay_operations V.Kind.meaning bay.now) (of_bay bay.now.number) Judge) ≡ Some (judge_refusal e)) }
-{
-    if let Some(place) = bay.lowest(Fault::WrittenTwice) {
-        return Err(JudgeRefusal::WrittenTwice { place });
-    }
-    if let Some(place) = bay.lowest(Fault::Unwritten) {
-        return Err(JudgeRefusal::Unwritten { place });
-    }
-    if let Some(place) = bay.lowest(Fault::Foreseen) {
-        return Err(JudgeRefusal::Foreseen { place });
-    }
-    Ok(())
+    gathered.faults.spare()?;
+    judge_bay(&gathered, limit).or(Err(JudgeRefusal::OverLimit { bay }))
 }

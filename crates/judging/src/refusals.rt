@@ -1,8 +1,11 @@
 // The refusals of a judge, with their numbers.
 ghost use Rattle.std.specs.Prelude.{◌≡◌};
+ghost use Rattle.gathering.specs.Faults.{fault_refusal};
 ghost use Rattle.judging.specs.Refusals.{judge_refusal};
+ghost use Rattle.operations.specs.declared.refusal.Layer.TheVariants.{Judge};
 
 use crate::refusal::JudgeRefusal;
+use gathering::faults::Fault;
 use operations::refusal::{Layer, Refusal};
 
 impl From<JudgeRefusal> for Refusal {
@@ -24,6 +27,19 @@ impl From<JudgeRefusal> for Refusal {
             number,
             place,
             layer: Layer::Judge,
+        }
+    }
+}
+
+// A fault of the bay is told as the judge's refusal.
+impl From<Fault> for JudgeRefusal {
+    ghost from_gives = { λ fault refused. judge_refusal refused ≡ fault_refusal Judge fault };
+
+    fn from(fault: Fault) -> JudgeRefusal {
+        match fault {
+            Fault::WrittenTwice { place } => JudgeRefusal::WrittenTwice { place },
+            Fault::Unwritten { place } => JudgeRefusal::Unwritten { place },
+            Fault::Foreseen { place } => JudgeRefusal::Foreseen { place },
         }
     }
 }

@@ -26,18 +26,12 @@ pub fn alike<V: Kind>(first: &Row<V>, other: &Row<V>) -> bool
 pub fn writes_in<V: Kind>(row: &Row<V>, bay: u8) -> bool
     ensures { result ≡ (row.now.bay == bay && writing row.now.sort) }
 {
-    match row.sort {
-        Sort::Read => false,
-        Sort::Write => row.bay == bay,
-    }
+    row.bay == bay && row.sort == Sort::Write
 }
 
 // Whether the row tells a read of the bay.
 pub fn reads_in<V: Kind>(row: &Row<V>, bay: u8) -> bool
     ensures { result ≡ (row.now.bay == bay && not (writing row.now.sort)) }
 {
-    match row.sort {
-        Sort::Read => row.bay == bay,
-        Sort::Write => false,
-    }
+    row.bay == bay && row.sort == Sort::Read
 }

@@ -1,6 +1,8 @@
 -- What is found of bays, one more at a time. Assumes nothing.
-use Rattle.std.proofs.Common.{◌≡◌, ℕ, zero, suc, ◌+◌, ◌≤◌, max, Bool, true, false, cond, ltb, List, [], ◌∷◌, ◌++◌, length, take, Ok, sym, ap, ◌∙◌, append-nil, add-one, arith}
+use Rattle.std.proofs.Common.{◌≡◌, ℕ, zero, suc, ◌+◌, ◌≤◌, max, Bool, true, false, cond, ltb, List, [], ◌∷◌, ◌++◌, length, Ok, Err, Result, refl, sym, ap, ◌∙◌, append-nil, add-one, arith}
+use Rattle.std.specs.Result.{result_or}
 use Rattle.std.proofs.lemmas.List.{length_push}
+use Rattle.lists.specs.Lists.{listed}
 use Rattle.operations.specs.declared.refusal.Layer.TheVariants.{Survey}
 use Rattle.operations.specs.declared.row.Row.{Row}
 use Rattle.orders.specs.Claims.{Judgeable}
@@ -10,11 +12,13 @@ use Rattle.trying.specs.declared.order.BayOrder.{BayOrder}
 use Rattle.relations.specs.Meanings.{told}
 use Rattle.trying.specs.Trying.{JudgedWithin}
 use Rattle.relations.proofs.Told.{told_timed}
+use Rattle.searching.specs.declared.search.NotFound.{NotFound}
 use Rattle.surveying.specs.declared.finding.Finding.{Finding}
-use Rattle.surveying.specs.Judged.{Judging, FoundIn}
+use Rattle.surveying.specs.declared.refusal.SurveyRefusal.TheVariants.{OverLimit}
+use Rattle.surveying.specs.Judged.{Judging, FoundIn, BayFound}
 use Rattle.surveying.specs.Surveying.{judged_age, judged_trials, judged_order, has_operation, finding, findings_below, orders_below}
 use Rattle.surveying.proofs.Adding.{orders_length, writes_few}
-use Rattle.surveying.proofs.Outcomes.{bay_judged, judged_same, operations_written}
+use Rattle.surveying.proofs.Outcomes.{overrun_more, bay_judged, judged_same, operations_written}
 use Rattle.surveying.proofs.Spared.{spared_judgeable}
 
 -- rows that are spared can be judged
@@ -22,10 +26,15 @@ pub rows_judgeable : {V : Type 0} (m : V → ℕ × ℕ) (rows : List (Row V)) �
 rows_judgeable m rows j = spared_judgeable (told m rows) Survey j.spared.passed (told_timed m rows j.valid)
 
 -- what judging a bay with so many trials left says
-pub bay_found : (ops : List Operation) (b left : ℕ) (found : BayOrder) → Judgeable ops (of_bay b) → JudgedWithin ops b left (Ok found) → FoundIn ops b left found
+bay_found : (ops : List Operation) (b left : ℕ) (found : BayOrder) → Judgeable ops (of_bay b) → JudgedWithin ops b left (Ok found) → FoundIn ops b left found
 bay_found ops b left found j w =
-    let s = judged_same ops b found.age found.trials (judged_age ops b) (judged_trials ops b) (take found.writes found.places) (judged_order ops b) w.0 (bay_judged ops b j) in
+    let s = judged_same ops b found.age found.trials (judged_age ops b) (judged_trials ops b) (listed found.places) (judged_order ops b) w.0 (bay_judged ops b j) in
     record { age = s.0; trials = s.1; within = w.1; writes = w.2; order = s.2 }
+
+-- or its trials are more
+pub bay_told : (ops : List Operation) (b left : ℕ) → Judgeable ops (of_bay b) → (r : Result BayOrder NotFound) → JudgedWithin ops b left r → BayFound ops b left (result_or r (Err (OverLimit b)))
+bay_told ops b left j (Ok found) w = bay_found ops b left found j w
+bay_told ops b left j (Err e) w = (overrun_more ops b left j w, refl)
 
 -- the largest age and the sum of one more
 pub top_more : (f : ℕ → ℕ) (n a b r : ℕ) → a ≡ top n f → b ≡ f n → r ≡ max a b → r ≡ top (n + 1) f

@@ -62,11 +62,11 @@ module _ (ops : List Operation) where
   }
 
   -- none at first,
-  pub faults_none : FaultsOf ops (bays_below 0) (record { written_twice = None; unwritten = None; foreseen = None })
-  faults_none = record { twice = none written_twice; lacking = none unwritten; early = none foreseen }
+  pub faults_none : (x : Faults) → (x.written_twice ≡ None) × ((x.unwritten ≡ None) × (x.foreseen ≡ None)) → FaultsOf ops (bays_below 0) x
+  faults_none x (twice, (lacking, early)) = record { twice = none written_twice x.written_twice twice; lacking = none unwritten x.unwritten lacking; early = none foreseen x.foreseen early }
     where
-      none : (fault : List Operation → ℕ → Bool) → Lowest (length ops) (faulty (bays_below 0) fault ops) None
-      none fault p h = and_left (bays_below 0 (at ops p)) (fault ops p) (le-ltb (at ops p).bay 0 (omega arith))
+      none : (fault : List Operation → ℕ → Bool) (place : Option ℕ) → place ≡ None → Lowest (length ops) (faulty (bays_below 0) fault ops) place
+      none fault place e = subst (Lowest (length ops) (faulty (bays_below 0) fault ops)) (sym e) (λ p h. and_left (bays_below 0 (at ops p)) (fault ops p) (le-ltb (at ops p).bay 0 (omega arith)))
 
   -- those of one bay more,
   pub faults_more : (n : ℕ) (x y : Faults) → FaultsOf ops (bays_below n) x → FaultsOf ops (of_bay n) y → FaultsOf ops (bays_below (n + 1)) (joined x y)

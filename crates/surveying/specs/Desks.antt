@@ -5,7 +5,7 @@ use Rattle.surveying.specs.declared.desk.SurveyDesk.{SurveyDesk}
 use Rattle.surveying.specs.declared.finding.Finding.{Finding}
 
 abbrev pub desk_findings : {V : Type 0} → SurveyDesk V → List Finding
-desk_findings desk = held desk.findings
+desk_findings desk = held desk.kept.findings
 
 abbrev pub desk_orders : {V : Type 0} → SurveyDesk V → List ℕ
-desk_orders desk = held desk.orders
+desk_orders desk = held desk.kept.orders

@@ -1,5 +1,6 @@
 -- What judging the bays of a crane one after the other comes to. Assumes nothing.
-use Rattle.std.specs.Prelude.{◌≡◌, ℕ, suc, ◌<◌, ◌≤◌, List, take, Ok, Err, Result}
+use Rattle.std.specs.Prelude.{◌≡◌, ℕ, suc, ◌<◌, ◌≤◌, List, length, Ok, Err, Result}
+use Rattle.lists.specs.Lists.{listed}
 use Rattle.operations.specs.Rows.{AllValid}
 use Rattle.operations.specs.declared.row.Row.{Row}
 use Rattle.orders.specs.Orders.{Operation, write_count}
@@ -22,8 +23,8 @@ pub record FoundIn (ops : List Operation) (b left : ℕ) (found : BayOrder) : Ty
   pub age : found.age ≡ judged_age ops b
   pub trials : found.trials ≡ judged_trials ops b
   pub within : found.trials ≤ left
-  pub writes : found.writes ≡ write_count ops b
-  pub order : take found.writes found.places ≡ judged_order ops b
+  pub writes : length (listed found.places) ≡ write_count ops b
+  pub order : listed found.places ≡ judged_order ops b
 
 -- or its trials are more
 abbrev pub BayFound : List Operation → (b left : ℕ) → Result BayOrder SurveyRefusal → Type 0

@@ -2,9 +2,8 @@
 ghost use Rattle.std.specs.Prelude.{◌≡◌, [], IfOk};
 ghost use Rattle.surveying.specs.Desks.{desk_findings, desk_orders};
 
-use crate::desk::SurveyDesk;
+use crate::desk::{Kept, SurveyDesk};
 use crate::finding::Finding;
-use gathering::bay::Bay;
 use operations::room::Room;
 use std::alloc::{AllocError, Global};
 use values::kind::Kind;
@@ -15,26 +14,23 @@ impl<V: Kind> SurveyDesk<V> {
         ensures { IfOk result (λ desk. (desk_findings desk ≡ []) × (desk_orders desk ≡ [])) }
     {
         let rows = Room::new(heap)?;
-        let bay = Bay::new(heap)?;
         let findings = Room::new(heap)?;
         let orders = Room::new(heap)?;
         Ok(SurveyDesk {
             rows,
-            bay,
-            findings,
-            orders,
+            kept: Kept { findings, orders },
         })
     }
 
     pub fn findings(&self) -> &[Finding]
         ensures { result.now ≡ desk_findings self.now }
     {
-        self.findings.as_slice()
+        self.kept.findings.as_slice()
     }
 
     pub fn orders(&self) -> &[usize]
         ensures { result.now ≡ desk_orders self.now }
     {
-        self.orders.as_slice()
+        self.kept.orders.as_slice()
     }
 }

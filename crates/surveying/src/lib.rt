@@ -5,6 +5,7 @@ mod crane;
 pub mod desk;
 pub mod desks;
 pub mod finding;
+mod keeping;
 pub mod refusal;
 pub mod refusals;
 pub mod report;

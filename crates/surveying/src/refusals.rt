@@ -1,8 +1,11 @@
 // The refusals of a survey, with their numbers.
 ghost use Rattle.std.specs.Prelude.{◌≡◌};
+ghost use Rattle.gathering.specs.Faults.{fault_refusal};
+ghost use Rattle.operations.specs.declared.refusal.Layer.TheVariants.{Survey};
 ghost use Rattle.surveying.specs.Refusals.{survey_refusal};
 
 use crate::refusal::SurveyRefusal;
+use gathering::faults::Fault;
 use operations::refusal::{Layer, Refusal};
 
 impl From<SurveyRefusal> for Refusal {
@@ -22,6 +25,19 @@ impl From<SurveyRefusal> for Refusal {
             number,
             place,
             layer: Layer::Survey,
+        }
+    }
+}
+
+// A fault of an operation is told as the survey's refusal.
+impl From<Fault> for SurveyRefusal {
+    ghost from_gives = { λ fault refused. survey_refusal refused ≡ fault_refusal Survey fault };
+
+    fn from(fault: Fault) -> SurveyRefusal {
+        match fault {
+            Fault::WrittenTwice { place } => SurveyRefusal::WrittenTwice { place },
+            Fault::Unwritten { place } => SurveyRefusal::Unwritten { place },
+            Fault::Foreseen { place } => SurveyRefusal::Foreseen { place },
         }
     }
 }

@@ -21,8 +21,7 @@ fn lower(one: Option<usize>, other: Option<usize>) -> Option<usize>
 {
     match (one, other) {
         (Some(place), Some(rival)) => Some(place.min(rival)),
-        (Some(place), None) => Some(place),
-        (None, place) => place,
+        _ => one.or(other),
     }
 }
 
@@ -38,19 +37,15 @@ fn join(one: Faults, other: Faults) -> Faults
 }
 
 // The faults of all bays together, unless a bay has more than 64 writes: then the lowest such bay is refused.
-fn faults<V: Kind>(rows: &[Row<V>], bay: &mut Bay<V>) -> Result<Faults, SurveyRefusal>
+fn faults<V: Kind>(rows: &[Row<V>]) -> Result<Faults, SurveyRefusal>
     requires { AllValid rows.now }
     ensures { MatchResult result
         (λ found. FewWrites (told V.Kind.meaning rows.now) crane_bays × FaultsOf (told V.Kind.meaning rows.now) whole found)
         (Refuses (told V.Kind.meaning rows.now)) }
 {
-    let mut found = Faults {
-        written_twice: None,
-        unwritten: None,
-        foreseen: None,
-    };
+    let mut found = Faults::default();
     for number in 0..BAYS {
-        let Ok(()) = bay.gather(rows, number) else {
+        let Ok(bay) = Bay::gather(rows, number) else {
             return Err(SurveyRefusal::TooManyWrites { bay: number });
         };
         found = join(found, bay.faults);
@@ -59,19 +54,11 @@ fn faults<V: Kind>(rows: &[Row<V>], bay: &mut Bay<V>) -> Result<Faults, SurveyRe
 }
 
 // Refuses rows that cannot be judged. Each fault is looked for at every place before the next one.
-pub fn spare<V: Kind>(rows: &[Row<V>], bay: &mut Bay<V>) -> Result<(), SurveyRefusal>
+pub fn spare<V: Kind>(rows: &[Row<V>]) -> Result<(), SurveyRefusal>
     requires { AllValid rows.now }
     ensures { Spares (told V.Kind.meaning rows.now) result }
 {
-    let found = faults(rows, bay)?;
-    if let Some(place) = found.written_twice {
-        return Err(SurveyRefusal::WrittenTwice { place });
-    }
-    if let Some(place) = found.unwritten {
-        return Err(SurveyRefusal::Unwritten { place });
-    }
-    if let Some(place) = found.foreseen {
-        return Err(SurveyRefusal::Foreseen { place });
-    }
+    let found = faults(rows)?;
+    found.spare()?;
     Ok(())
 }

@@ -35,12 +35,6 @@ pub fn survey<S: Source>(
     let Ok(()) = copy(source, &mut desk.rows) else {
         unreachable()
     };
-    spare(desk.rows.as_slice(), &mut desk.bay)?;
-    judge_bays(
-        desk.rows.as_slice(),
-        limit,
-        &mut desk.bay,
-        &mut desk.findings,
-        &mut desk.orders,
-    )
+    spare(desk.rows.as_slice())?;
+    judge_bays(desk.rows.as_slice(), limit, &mut desk.kept)
 }

@@ -4,20 +4,16 @@ use native.Mathlib.Nat.{zero-div}
 use Rattle.std.proofs.lemmas.List.{length-set, get_or_default, get_or-map, get_or-set_same, get_or-set_other}
 use Rattle.std.proofs.lemmas.Bool.{cases_eq, cases_order, eq-eqb, ne_eqb, lt-ltb, le-ltb}
 use Rattle.masks.specs.Masks.{has_bit, Added}
-use Rattle.orders.specs.Orders.{at}
-use Rattle.relations.specs.Meanings.{meant}
 use Rattle.gathering.specs.declared.write.Write.{Write}
-use Rattle.gathering.specs.Gathering.{told_read}
-use Rattle.gathering.specs.Writes.{written}
-use Rattle.trying.specs.Edges.{Bits, last_reads, is_into, is_from, TablesOf}
+use Rattle.trying.specs.Edges.{Bits, finishes, last_reads, is_into, is_from, TablesOf}
 
--- what stands at a rank, as an operation, and its last read
-module _ {V : Type 0} (m : V → ℕ × ℕ) (ws : List (Write V)) (i : ℕ) (w : Write V) (h : i < length ws) (e : w ≡ get_or ws i w) where
-  pub written_at : at (written m ws) i ≡ meant m w.row
-  written_at = get_or-map (λ w. meant m w.row) ws i w _ h ∙ ap (λ w. meant m w.row) (sym e)
+-- the finish and the last read of what stands at a rank
+module _ (ws : List Write) (i : ℕ) (d : Write) (h : i < length ws) where
+  pub finish_at : get_or (finishes ws) i 0 ≡ (get_or ws i d).finish
+  finish_at = get_or-map (λ w. w.finish) ws i d 0 h
 
-  pub last_at : get_or (last_reads m ws) i None ≡ told_read m w.last_read
-  last_at = get_or-map (λ w. told_read m w.last_read) ws i w _ h ∙ ap (λ w. told_read m w.last_read) (sym e)
+  pub last_at : get_or (last_reads ws) i None ≡ (get_or ws i d).last_read
+  last_at = get_or-map (λ w. w.last_read) ws i d None h
 
 -- 0 has no bit
 pub bits_none : (test : ℕ → Bool) → Bits 0 test 0
@@ -48,8 +44,8 @@ module _ (n : ℕ) (test : ℕ → Bool) (mask : ℕ) (bits : Bits n test mask) 
       go (inr (inr gt)) = rw (le-ltb i n (omega arith), le-ltb i (n + 1) (omega arith))
 
 -- one write more
-module _ {V : Type 0} (m : V → ℕ × ℕ) (ws : List (Write V)) (n : ℕ) (before behind : List ℕ) (tables : TablesOf m ws n before behind) (x : Write V) (here : x ≡ get_or ws n x) where
-  pub tables_more : n < 64 → n < length ws → (into from : ℕ) → Bits (length ws) (is_into m ws x) into → Bits (length ws) (is_from m ws n x) from → TablesOf m ws (n + 1) (set before n into) (set behind n from)
+module _ (ws : List Write) (n : ℕ) (before behind : List ℕ) (tables : TablesOf ws n before behind) (d : Write) where
+  pub tables_more : n < 64 → n < length ws → (into from : ℕ) → Bits (length ws) (is_into ws (get_or ws n d)) into → Bits (length ws) (is_from ws n (get_or ws n d)) from → TablesOf ws (n + 1) (set before n into) (set behind n from)
   tables_more h lies into from e f = record {
     before_room = length-set before n into ∙ tables.before_room;
     behind_room = length-set behind n from ∙ tables.behind_room;
@@ -57,13 +53,16 @@ module _ {V : Type 0} (m : V → ℕ × ℕ) (ws : List (Write V)) (n : ℕ) (be
     from = λ u w lt s. go_from u w lt s (cases_eq u n);
   }
     where
-      same : (v : ℕ) (w : Write V) → v ≡ n → w ≡ get_or ws v w → x ≡ w
-      same v w q s = here ∙ get_or_default ws n x w lies ∙ ap (λ i. get_or ws i w) (sym q) ∙ sym s
+      x : Write
+      x = get_or ws n d
 
-      go_into : (v : ℕ) (w : Write V) → v < n + 1 → w ≡ get_or ws v w → ((v ≡ n) ⊎ (v ≡ n → ⊥)) → Bits (length ws) (is_into m ws w) (get_or (set before n into) v 0)
-      go_into v w lt s (inl q) = subst (Bits (length ws) (is_into m ws w)) (sym (ap (λ i. get_or (set before n into) i 0) q ∙ get_or-set_same before n into 0 (omega (arith, tables.before_room)))) (subst (λ y. Bits (length ws) (is_into m ws y) into) (same v w q s) e)
-      go_into v w lt s (inr d) = subst (Bits (length ws) (is_into m ws w)) (sym (get_or-set_other before n v into 0 d)) (tables.into v w (omega arith) s)
+      same : (v : ℕ) (w : Write) → v ≡ n → w ≡ get_or ws v w → x ≡ w
+      same v w q s = get_or_default ws n d w lies ∙ ap (λ i. get_or ws i w) (sym q) ∙ sym s
 
-      go_from : (u : ℕ) (w : Write V) → u < n + 1 → w ≡ get_or ws u w → ((u ≡ n) ⊎ (u ≡ n → ⊥)) → Bits (length ws) (is_from m ws u w) (get_or (set behind n from) u 0)
-      go_from u w lt s (inl q) = subst (Bits (length ws) (is_from m ws u w)) (sym (ap (λ i. get_or (set behind n from) i 0) q ∙ get_or-set_same behind n from 0 (omega (arith, tables.behind_room)))) (subst (λ i. Bits (length ws) (is_from m ws i w) from) (sym q) (subst (λ y. Bits (length ws) (is_from m ws n y) from) (same u w q s) f))
-      go_from u w lt s (inr d) = subst (Bits (length ws) (is_from m ws u w)) (sym (get_or-set_other behind n u from 0 d)) (tables.from u w (omega arith) s)
+      go_into : (v : ℕ) (w : Write) → v < n + 1 → w ≡ get_or ws v w → ((v ≡ n) ⊎ (v ≡ n → ⊥)) → Bits (length ws) (is_into ws w) (get_or (set before n into) v 0)
+      go_into v w lt s (inl q) = subst (Bits (length ws) (is_into ws w)) (sym (ap (λ i. get_or (set before n into) i 0) q ∙ get_or-set_same before n into 0 (omega (arith, tables.before_room)))) (subst (λ y. Bits (length ws) (is_into ws y) into) (same v w q s) e)
+      go_into v w lt s (inr d) = subst (Bits (length ws) (is_into ws w)) (sym (get_or-set_other before n v into 0 d)) (tables.into v w (omega arith) s)
+
+      go_from : (u : ℕ) (w : Write) → u < n + 1 → w ≡ get_or ws u w → ((u ≡ n) ⊎ (u ≡ n → ⊥)) → Bits (length ws) (is_from ws u w) (get_or (set behind n from) u 0)
+      go_from u w lt s (inl q) = subst (Bits (length ws) (is_from ws u w)) (sym (ap (λ i. get_or (set behind n from) i 0) q ∙ get_or-set_same behind n from 0 (omega (arith, tables.behind_room)))) (subst (λ i. Bits (length ws) (is_from ws i w) from) (sym q) (subst (λ y. Bits (length ws) (is_from ws n y) from) (same u w q s) f))
+      go_from u w lt s (inr d) = subst (Bits (length ws) (is_from ws u w)) (sym (get_or-set_other behind n u from 0 d)) (tables.from u w (omega arith) s)

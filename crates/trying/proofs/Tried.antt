@@ -2,7 +2,7 @@
 use Rattle.std.proofs.Common.{◌≡◌, ℕ, ◌<◌, ◌≤◌, cond, List, [], length, get_or, take, Ok, Err, Result, sym, refl, ap, ◌∙◌, subst, arith}
 use Rattle.std.proofs.lemmas.List.{get_or-take, length-take-le}
 use Rattle.masks.specs.Masks.{has_bit}
-use Rattle.operations.specs.Rooms.{held}
+use Rattle.lists.specs.Lists.{listed}
 use Rattle.orders.specs.Claims.{Judgeable}
 use Rattle.orders.specs.Orders.{Operation, of_bay, write_count, bay_graph, Distinct}
 use Rattle.orders.specs.RunUps.{Tried}
@@ -12,7 +12,8 @@ use Rattle.bays.proofs.Ages.{overrun, some_order}
 use Rattle.bays.proofs.Ranks.{places_count, places_rising, place_writes, write_listed}
 use Rattle.gathering.specs.declared.bay.Bay.{Bay}
 use Rattle.gathering.specs.declared.write.Write.{Write}
-use Rattle.gathering.specs.Gathering.{places, Seen, Gathered}
+use Rattle.gathering.specs.Gathering.{Seen, Gathered}
+use Rattle.gathering.specs.Writes.{places}
 use Rattle.searching.specs.Masks.{mask_graph}
 use Rattle.searching.specs.Outcome.{Found, Missed}
 use Rattle.searching.specs.declared.search.FirstOrder.{FirstOrder}
@@ -26,73 +27,73 @@ use Rattle.trying.proofs.Edged.{ranked, count, into_is, from_is}
 use Rattle.trying.proofs.Masked.{bits_at}
 
 -- ranks that the search found are ranks
-pub ranks_found : {V : Type 0} (m : V → ℕ × ℕ) (ws : List (Write V)) (limit : ℕ) (f : FirstOrder) → length ws ≤ 64 → RanksSearched m ws limit (Ok f) → RanksUpTo (length ws) f.writes
-ranks_found m ws limit f few s = go (length (take (length ws) s.before)) (length-take-le (length ws) s.before (omega (arith, s.tables.before_room))) s.searched
+pub ranks_found : (ws : List Write) (limit : ℕ) (f : FirstOrder) → length ws ≤ 64 → RanksSearched ws limit (Ok f) → RanksUpTo (length ws) f.writes
+ranks_found ws limit f few s = go (length (take (length ws) s.before)) (length-take-le (length ws) s.before (omega (arith, s.tables.before_room))) s.searched
   where
     go : (n : ℕ) → n ≡ length ws → Found (mask_graph n (take (length ws) s.before) (take (length ws) s.behind)) n limit f → RanksUpTo (length ws) f.writes
     go n e found = subst (λ k. RanksUpTo k f.writes) e (entry_below (mask_graph n (take (length ws) s.before) (take (length ws) s.behind)) n f.age (λ p. refl) f.writes found.0.first.order)
 
-module _ {V : Type 0} (m : V → ℕ × ℕ) (ops : List Operation) (b : ℕ) (ws : List (Write V)) (seen : Seen m ops b (length ops) ws) (dist : Distinct ops (of_bay b)) (limit : ℕ) (r : Result FirstOrder NotFound) (s : RanksSearched m ws limit r) where
+module _ (ops : List Operation) (b : ℕ) (ws : List Write) (seen : Seen ops b (length ops) ws) (dist : Distinct ops (of_bay b)) (limit : ℕ) (r : Result FirstOrder NotFound) (s : RanksSearched ws limit r) where
   -- the masks say the writes of the bay and their edges, by rank
   renamed : (n : ℕ) → n ≡ length ws → Renamed (mask_graph n (take (length ws) s.before) (take (length ws) s.behind)) (bay_graph ops b) n (λ i. get_or (write_places ops b) i 0)
   renamed n e = record {
     ranks = λ i. refl;
-    rising = λ i j l h. places_rising ops b i j l (omega (arith, count m ops b ws seen));
-    listed = λ i h. place_writes ops b i (omega (arith, count m ops b ws seen));
-    only = λ p h. let x = write_listed ops b p h in (x.0, omega (arith, x.1, count m ops b ws seen), x.2);
+    rising = λ i j l h. places_rising ops b i j l (omega (arith, count ops b ws seen));
+    listed = λ i h. place_writes ops b i (omega (arith, count ops b ws seen));
+    only = λ p h. let x = write_listed ops b p h in (x.0, omega (arith, x.1, count ops b ws seen), x.2);
     write_edges = λ i j h l.
         let v = ranked ws i (omega arith) in
         let w = ranked ws j (omega arith) in
         ap (λ mask. has_bit mask i) (get_or-take (length ws) s.before j 0 (omega arith))
-        ∙ bits_at (length ws) (is_into m ws w.0) (get_or s.before j 0) (s.tables.into j w.0 (omega arith) w.1) i (omega arith)
-        ∙ into_is m ops b ws seen dist i j v.0 w.0 (omega arith) (omega arith) v.1 w.1;
+        ∙ bits_at (length ws) (is_into ws w.0) (get_or s.before j 0) (s.tables.into j w.0 (omega arith) w.1) i (omega arith)
+        ∙ into_is ops b ws seen dist i j v.0 w.0 (omega arith) (omega arith) v.1 w.1;
     read_edges = λ i j h l.
         let v = ranked ws i (omega arith) in
         let w = ranked ws j (omega arith) in
         ap (λ mask. has_bit mask j) (get_or-take (length ws) s.behind i 0 (omega arith))
-        ∙ bits_at (length ws) (is_from m ws i v.0) (get_or s.behind i 0) (s.tables.from i v.0 (omega arith) v.1) j (omega arith)
-        ∙ from_is m ops b ws seen dist i j v.0 w.0 (omega arith) (omega arith) v.1 w.1;
+        ∙ bits_at (length ws) (is_from ws i v.0) (get_or s.behind i 0) (s.tables.from i v.0 (omega arith) v.1) j (omega arith)
+        ∙ from_is ops b ws seen dist i j v.0 w.0 (omega arith) (omega arith) v.1 w.1;
   }
 
 -- so the search over the masks is one over the writes of the bay
-module _ {V : Type 0} (m : V → ℕ × ℕ) (ops : List Operation) (b : ℕ) (bay : Bay V) (gathered : Gathered m ops b bay) (limit : ℕ) where
-  number : length (held bay.writes) ≡ write_count ops b
-  number = count m ops b (held bay.writes) gathered.writes ∙ places_count ops b
+module _ (ops : List Operation) (b : ℕ) (bay : Bay) (gathered : Gathered ops b bay) (limit : ℕ) where
+  number : length (listed bay.writes) ≡ write_count ops b
+  number = count ops b (listed bay.writes) gathered.writes ∙ places_count ops b
 
   -- a bay without a write
-  pub judged_idle : (n : ℕ) → n ≡ length (held bay.writes) → n ≡ 0 → BayJudged ops b 0 0 [] × (0 ≤ limit) × (0 ≡ write_count ops b)
-  judged_idle n s e =
-      let none = sym number ∙ sym s ∙ e in
-      (idle none refl refl refl, omega arith, sym none)
+  pub judged_idle : length (listed bay.writes) ≡ 0 → (order : List ℕ) → order ≡ [] → BayJudged ops b 0 0 order × (0 ≤ limit) × (length order ≡ write_count ops b)
+  judged_idle e order empty =
+      let none = sym number ∙ e in
+      (idle none refl refl empty, omega arith, ap length empty ∙ sym none)
 
   module _ (ready : Judgeable ops (of_bay b)) where
     -- the order that is found of one with a write
-    pub judged_found : (f : FirstOrder) (order : List ℕ) (age : ℕ) → 0 < length (held bay.writes) → RanksSearched m (held bay.writes) limit (Ok f) → take (length (held bay.writes)) order ≡ placed (places (held bay.writes)) (take (length (held bay.writes)) f.writes) → age ≡ cond bay.read f.age 0 → BayJudged ops b age f.trials (take (length (held bay.writes)) order) × (f.trials ≤ limit) × (length (held bay.writes) ≡ write_count ops b)
-    judged_found f order age some s same aged =
-        go (length (take (length (held bay.writes)) s.before)) (length-take-le (length (held bay.writes)) s.before (omega (arith, s.tables.before_room, gathered.writes.few))) s.searched
+    pub judged_found : (f : FirstOrder) (order : List ℕ) (age : ℕ) → 0 < length (listed bay.writes) → RanksSearched (listed bay.writes) limit (Ok f) → order ≡ placed (places (listed bay.writes)) (take (length (listed bay.writes)) f.writes) → length order ≡ length (listed bay.writes) → age ≡ cond bay.read f.age 0 → BayJudged ops b age f.trials order × (f.trials ≤ limit) × (length order ≡ write_count ops b)
+    judged_found f order age some s same all aged =
+        go (length (take (length (listed bay.writes)) s.before)) (length-take-le (length (listed bay.writes)) s.before (omega (arith, s.tables.before_room, gathered.writes.few))) s.searched
       where
-        go : (n : ℕ) → n ≡ length (held bay.writes) → Found (mask_graph n (take (length (held bay.writes)) s.before) (take (length (held bay.writes)) s.behind)) n limit f → BayJudged ops b age f.trials (take (length (held bay.writes)) order) × (f.trials ≤ limit) × (length (held bay.writes) ≡ write_count ops b)
+        go : (n : ℕ) → n ≡ length (listed bay.writes) → Found (mask_graph n (take (length (listed bay.writes)) s.before) (take (length (listed bay.writes)) s.behind)) n limit f → BayJudged ops b age f.trials order × (f.trials ≤ limit) × (length order ≡ write_count ops b)
         go n e found =
-            let x = renamed m ops b (held bay.writes) gathered.writes ready.distinct limit (Ok f) s n e in
+            let x = renamed ops b (listed bay.writes) gathered.writes ready.distinct limit (Ok f) s n e in
             let t = tried_renamed x f.age f.trials (take n f.writes) found.0 in (
               tried f.age (omega (arith, number))
-                  (subst (Tried (bay_graph ops b) f.age f.trials) (sym (same ∙ ap (λ l. placed l (take (length (held bay.writes)) f.writes)) gathered.writes.ranked)) (subst (λ k. Tried (bay_graph ops b) f.age f.trials (placed (write_places ops b) (take k f.writes))) e t))
+                  (subst (Tried (bay_graph ops b) f.age f.trials) (sym (same ∙ ap (λ l. placed l (take (length (listed bay.writes)) f.writes)) gathered.writes.ranked)) (subst (λ k. Tried (bay_graph ops b) f.age f.trials (placed (write_places ops b) (take k f.writes))) e t))
                   (aged ∙ ap (λ c. cond c f.age 0) gathered.read),
               found.1,
-              number,
+              all ∙ number,
             )
 
     -- and none is found because its trials pass the limit
-    pub judged_missed : 0 < length (held bay.writes) → (e : NotFound) → RanksSearched m (held bay.writes) limit (Err e) → Overrun ops b limit
-    judged_missed some why s = go (length (take (length (held bay.writes)) s.before)) (length-take-le (length (held bay.writes)) s.before (omega (arith, s.tables.before_room, gathered.writes.few))) why refl s.searched
+    pub judged_missed : 0 < length (listed bay.writes) → (e : NotFound) → RanksSearched (listed bay.writes) limit (Err e) → Overrun ops b limit
+    judged_missed some why s = go (length (take (length (listed bay.writes)) s.before)) (length-take-le (length (listed bay.writes)) s.before (omega (arith, s.tables.before_room, gathered.writes.few))) why refl s.searched
       where
         first : ℕ
         first = get_or (write_places ops b) 0 0
 
-        go : (n : ℕ) → n ≡ length (held bay.writes) → (e : NotFound) → why ≡ e → Missed (mask_graph n (take (length (held bay.writes)) s.before) (take (length (held bay.writes)) s.behind)) n limit e → Overrun ops b limit
+        go : (n : ℕ) → n ≡ length (listed bay.writes) → (e : NotFound) → why ≡ e → Missed (mask_graph n (take (length (listed bay.writes)) s.before) (take (length (listed bay.writes)) s.behind)) n limit e → Overrun ops b limit
         go n e OverLimit q missed =
-            let x = renamed m ops b (held bay.writes) gathered.writes ready.distinct limit (Err why) s n e in
+            let x = renamed ops b (listed bay.writes) gathered.writes ready.distinct limit (Err why) s n e in
             overrun ops b ready first (place_writes ops b 0 (omega (arith, number, places_count ops b))) missed.0 missed.1 limit (none_below_renamed x missed.0 missed.4) (trials_up_to_renamed x missed.0 missed.1 missed.5) missed.6
         go n e NoOrder q missed =
-            let x = renamed m ops b (held bay.writes) gathered.writes ready.distinct limit (Err why) s n e in
+            let x = renamed ops b (listed bay.writes) gathered.writes ready.distinct limit (Err why) s n e in
             absurd (some_order ops b ready first (place_writes ops b 0 (omega (arith, number, places_count ops b))) (λ k h. none_renamed x k (missed k h)))

@@ -2,6 +2,7 @@
 use Rattle.std.specs.Prelude.{◌≡◌, ℕ, ◌<◌, ◌≤◌, List, map, length, take, Ok, Err, Result, slice_index}
 use Rattle.bays.specs.Verdicts.{BayJudged, Overrun}
 use Rattle.gathering.specs.declared.write.Write.{Write}
+use Rattle.lists.specs.Lists.{listed}
 use Rattle.orders.specs.Orders.{Operation, write_count}
 use Rattle.searching.specs.Outcome.{Searched}
 use Rattle.searching.specs.declared.search.FirstOrder.{FirstOrder}
@@ -18,13 +19,13 @@ abbrev pub RanksUpTo : ℕ → List ℕ → Type 0
 RanksUpTo n ranks = (i : ℕ) → i < n → slice_index ranks i < n
 
 -- the search over tables of the edges between the writes
-pub record RanksSearched {V : Type 0} (meaning : V → ℕ × ℕ) (ws : List (Write V)) (limit : ℕ) (r : Result FirstOrder NotFound) : Type 0 where
+pub record RanksSearched (ws : List Write) (limit : ℕ) (r : Result FirstOrder NotFound) : Type 0 where
   pub before : List ℕ
   pub behind : List ℕ
-  pub tables : TablesOf meaning ws (length ws) before behind
+  pub tables : TablesOf ws (length ws) before behind
   pub searched : Searched (take (length ws) before) (take (length ws) behind) limit r
 
 -- judging bay b with so many trials left: its order, or that its trials are more
 abbrev pub JudgedWithin : List Operation → (b limit : ℕ) → Result BayOrder NotFound → Type 0
-JudgedWithin ops b limit (Ok o) = BayJudged ops b o.age o.trials (take o.writes o.places) × (o.trials ≤ limit) × (o.writes ≡ write_count ops b)
+JudgedWithin ops b limit (Ok o) = BayJudged ops b o.age o.trials (listed o.places) × (o.trials ≤ limit) × (length (listed o.places) ≡ write_count ops b)
 JudgedWithin ops b limit (Err e) = Overrun ops b limit

@@ -1,16 +1,11 @@
 // The edges between the writes of a bay, as masks of ranks.
 ghost use Rattle.std.specs.Prelude.{◌≡◌, ◌≤◌, not, ◌&&◌, length, ◌==◌};
-ghost use Rattle.operations.specs.Rooms.{held};
-ghost use Rattle.relations.specs.Meanings.{meant};
-ghost use Rattle.gathering.specs.Gathering.{told_read};
+ghost use Rattle.lists.specs.Lists.{listed};
 ghost use Rattle.trying.specs.Edges.{Bits, before_last, is_into, is_from, TablesOf};
 
 use gathering::bay::Bay;
 use gathering::write::Write;
 use masks::with_bit;
-use operations::row::Row;
-use relations::before;
-use values::kind::Kind;
 
 // Both tables have a mask of ranks for each write, by rank: `before` has the writes with a write edge into it, `behind` those that
 // it has a read edge to.
@@ -21,30 +16,27 @@ pub(crate) struct Tables {
 }
 
 // Whether a write, shortened, is before the last read of another; then it is before some read of it.
-fn before_last<V: Kind>(row: &Row<V>, last: &Option<Row<V>>) -> bool
-    ensures { result ≡ before_last (meant V.Kind.meaning row.now) (told_read V.Kind.meaning last.now) }
+fn before_last(finish: u32, last: Option<u32>) -> bool
+    ensures { result ≡ before_last finish last }
 {
-    match last {
-        Some(read) => before(row, read),
-        None => false,
-    }
+    last.is_some_and(|start| finish < start)
 }
 
 // Whether the write of one rank has a read edge to that of another.
-fn read_edge<V: Kind>(from: usize, write: &Write<V>, into: usize, other: &Write<V>) -> bool
-    ensures { result ≡ (not (into == from) && before_last (meant V.Kind.meaning write.now.row) (told_read V.Kind.meaning other.now.last_read)) }
+fn read_edge(from: usize, write: &Write, into: usize, other: &Write) -> bool
+    ensures { result ≡ (not (into == from) && before_last write.now.finish other.now.last_read) }
 {
-    into != from && before_last(&write.row, &other.last_read)
+    into != from && before_last(write.finish, other.last_read)
 }
 
 // The writes with a write edge into this one: those that are, shortened, before it.
-fn edges_into<V: Kind>(writes: &[Write<V>], into: &Write<V>) -> u64
+fn edges_into(writes: &[Write], into: &Write) -> u64
     requires { length writes.now ≤ 64 }
-    ensures { Bits (length writes.now) (is_into V.Kind.meaning writes.now into.now) result }
+    ensures { Bits (length writes.now) (is_into writes.now into.now) result }
 {
     let mut mask = 0;
     for (rank, write) in writes.iter().enumerate() {
-        if before(&write.row, &into.row) {
+        if write.finish < into.start {
             mask = with_bit(mask, rank as u32);
         }
     }
@@ -52,9 +44,9 @@ fn edges_into<V: Kind>(writes: &[Write<V>], into: &Write<V>) -> u64
 }
 
 // The writes that the write of a rank has a read edge to: the others with a read that it is, shortened, before.
-fn edges_from<V: Kind>(writes: &[Write<V>], from: usize, write: &Write<V>) -> u64
+fn edges_from(writes: &[Write], from: usize, write: &Write) -> u64
     requires { length writes.now ≤ 64 }
-    ensures { Bits (length writes.now) (is_from V.Kind.meaning writes.now from write.now) result }
+    ensures { Bits (length writes.now) (is_from writes.now from write.now) result }
 {
     let mut mask = 0;
     for (rank, other) in writes.iter().enumerate() {
@@ -66,8 +58,8 @@ fn edges_from<V: Kind>(writes: &[Write<V>], from: usize, write: &Write<V>) -> u6
 }
 
 // The edges between all writes of a bay.
-pub(crate) fn edges_between<V: Kind>(bay: &Bay<V>) -> Tables
-    ensures { TablesOf V.Kind.meaning (held bay.now.writes) (length (held bay.now.writes)) result.before result.behind }
+pub(crate) fn edges_between(bay: &Bay) -> Tables
+    ensures { TablesOf (listed bay.now.writes) (length (listed bay.now.writes)) result.before result.behind }
 {
     let writes = bay.writes.as_slice();
     let mut before = [0; 64];

@@ -2,43 +2,41 @@
 ghost use Rattle.std.specs.Prelude.{◌≡◌, ℕ, ◌≤◌, List, length, take};
 ghost use Rattle.orders.specs.Claims.{Judgeable};
 ghost use Rattle.orders.specs.Orders.{Operation, of_bay};
-ghost use Rattle.gathering.specs.Gathering.{places, Gathered};
-ghost use Rattle.operations.specs.Rooms.{held};
+ghost use Rattle.gathering.specs.Gathering.{Gathered};
+ghost use Rattle.gathering.specs.Writes.{places};
+ghost use Rattle.lists.specs.Lists.{listed};
 ghost use Rattle.trying.specs.Trying.{placed, RanksUpTo, RanksSearched, JudgedWithin};
 
 use crate::edges::edges_between;
 use crate::order::BayOrder;
 use gathering::bay::Bay;
-use gathering::write::Write;
+use gathering::write::{MOST_WRITES, Write};
+use lists::ArrayList;
 use searching::edges::Edges;
 use searching::search::{FirstOrder, NotFound};
-use values::kind::Kind;
 
 // Tries the value orders of a gathered bay, with no more trials than the limit. What it finds is said of a bay without faults.
-pub fn judge_bay<V: Kind>(bay: &Bay<V>, limit: u32) -> Result<BayOrder, NotFound>
-    ensures { (ops : List Operation) (b : ℕ) → Gathered V.Kind.meaning ops b bay.now → Judgeable ops (of_bay b) → JudgedWithin ops b limit result }
+pub fn judge_bay(bay: &Bay, limit: u32) -> Result<BayOrder, NotFound>
+    ensures { (ops : List Operation) (b : ℕ) → Gathered ops b bay.now → Judgeable ops (of_bay b) → JudgedWithin ops b limit result }
 {
-    let writes = bay.writes.as_slice();
-    if writes.is_empty() {
+    if bay.writes.is_empty() {
         return Ok(BayOrder {
             age: 0,
             trials: 0,
-            places: [0; 64],
-            writes: 0,
+            places: ArrayList::new(),
         });
     }
     let found = search(bay, limit)?;
     Ok(BayOrder {
         age: if bay.read { found.age } else { 0 },
         trials: found.trials,
-        places: placed(writes, &found.writes),
-        writes: writes.len(),
+        places: placed(bay.writes.as_slice(), &found.writes),
     })
 }
 
 // The search over the edges between the writes.
-fn search<V: Kind>(bay: &Bay<V>, limit: u32) -> Result<FirstOrder, NotFound>
-    ensures { RanksSearched V.Kind.meaning (held bay.now.writes) limit result }
+fn search(bay: &Bay, limit: u32) -> Result<FirstOrder, NotFound>
+    ensures { RanksSearched (listed bay.now.writes) limit result }
 {
     let tables = edges_between(bay);
     let count = bay.writes.len();
@@ -50,13 +48,16 @@ fn search<V: Kind>(bay: &Bay<V>, limit: u32) -> Result<FirstOrder, NotFound>
 }
 
 // The places of ranks.
-fn placed<V: Kind>(writes: &[Write<V>], ranks: &[u8; 64]) -> [usize; 64]
+fn placed(writes: &[Write], ranks: &[u8; 64]) -> ArrayList<usize, MOST_WRITES>
     requires { (length writes.now ≤ 64) × (RanksUpTo (length writes.now) ranks.now) }
-    ensures { (take (length writes.now) result ≡ placed (places writes.now) (take (length writes.now) ranks.now)) × (length result ≡ 64) }
+    ensures order { listed result ≡ placed (places writes.now) (take (length writes.now) ranks.now) }
+    ensures all { length (listed result) ≡ length writes.now }
 {
-    let mut places = [0; 64];
-    for i in 0..writes.len() {
-        places[i] = writes[ranks[i] as usize].place;
+    let mut places = ArrayList::new();
+    for rank in &ranks[..writes.len()] {
+        let Ok(()) = places.push(writes[*rank as usize].place) else {
+            unreachable()
+        };
     }
     places
 }

@@ -1,13 +1,11 @@
 // What judging one bay finds.
-ghost use Rattle.std.specs.Prelude.{◌≡◌, ◌≤◌, length};
+use gathering::write::MOST_WRITES;
+use lists::ArrayList;
 
-// The age, the trials, and the value order: the first `writes` of `places`.
+// The age, the trials, and the value order by places.
 #[derive(Clone, Copy)]
 pub struct BayOrder {
     pub age: usize,
     pub trials: u32,
-    pub places: [usize; 64],
-    pub writes: usize,
-    ghost wide: { length places ≡ 64 },
-    ghost few: { writes ≤ 64 },
+    pub places: ArrayList<usize, MOST_WRITES>,
 }

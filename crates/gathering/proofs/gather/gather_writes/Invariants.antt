@@ -1,5 +1,5 @@
 use Rattle.bays.specs.Faults.{Lowest, faulty, written_twice}
-use Rattle.operations.specs.Rooms.{held}
+use Rattle.lists.specs.Lists.{listed}
 use Rattle.orders.specs.Orders.{of_bay}
 use Rattle.relations.specs.Meanings.{told}
 use Rattle.gathering.specs.Gathering.{Wrote}
@@ -7,5 +7,5 @@ use Rattle.gathering.proofs.gather.gather_writes.Given as goal
 
 abbrev pub invariant-loop-place : goal.invariant-loop-place
 invariant-loop-place g l =
-    Wrote g.V.Kind.meaning (told g.V.Kind.meaning l.rows) l.number l.place (held l.writes)
+    Wrote (told g.V.Kind.meaning l.rows) l.number l.place (listed l.writes)
     × Lowest l.place (faulty (of_bay l.number) written_twice (told g.V.Kind.meaning l.rows)) l.twice

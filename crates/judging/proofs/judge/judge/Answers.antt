@@ -1,9 +1,9 @@
-use Rattle.std.proofs.Common.{◌≤◌, length, Ok, Err, sym, ◌∙◌, subst, arith}
+use Rattle.std.proofs.Common.{◌≡◌, ◌≤◌, ◌++◌, length, drop, Ok, Err, sym, ◌∙◌, subst, arith}
 use Rattle.std.proofs.lemmas.List.{length-map}
 use Rattle.std.proofs.lemmas.Result.{err_from_is_err_and}
 use Rattle.operations.specs.Rows.{AllValid}
-use Rattle.judging.specs.Meanings.{meant, told}
-use Rattle.judging.specs.Trying.{RowsJudged}
+use Rattle.relations.specs.Meanings.{meant, told}
+use Rattle.judging.specs.Rows.{RowsJudged}
 use Rattle.judging.proofs.Reporting.{refused_8, refused_10, refused_11, refused, reported}
 use Rattle.judging.proofs.judge.judge.Goals as goal
 
@@ -41,5 +41,7 @@ returns g c =
     let meaning = g.S.Value.Kind.meaning in
     let rows = g.S.Source.operations c.args.source.now in
     let short : length (told meaning rows) ≤ 512 = omega (arith, length-map rows (meant meaning), c.len-operations.ensures) in
-    reported (told meaning rows) c.args.bay c.args.limit c.args.sheet.now (omega arith) (omega arith) (omega arith) (omega arith) short c.in_ok-found.found c.fill.new.sheet
-    (subst (λ l. RowsJudged (told meaning l) c.args.bay c.args.limit (Ok c.in_ok-found.found)) (c.as_slice.ensures ∙ c.in-Ok.ensures) c.in_ok-found.ensures) c.fill.ensures
+    rw c.len.ensures
+    (reported (told meaning rows) c.args.bay c.args.limit c.args.sheet.now (omega arith) (omega arith) (omega arith) (omega arith) short c.in_ok-found.found c.fill.new.sheet
+    (subst (λ l. RowsJudged (told meaning l) c.args.bay c.args.limit (Ok c.in_ok-found.found)) (c.as_slice.ensures ∙ c.in-Ok.ensures) c.in_ok-found.ensures)
+    (subst (λ order. c.fill.new.sheet ≡ order ++ drop (length order) c.args.sheet.now) c.as_slice-2.ensures.value c.fill.ensures))

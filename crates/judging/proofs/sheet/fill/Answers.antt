@@ -1,5 +1,5 @@
 use Rattle.std.proofs.Common.{◌≡◌, ◌≤◌, ◌++◌, length, drop, sym, ap, ◌∙◌, arith, rules}
-use Rattle.judging.proofs.Passes.{fill_more, fill_room, fill_all}
+use Rattle.judging.proofs.Filling.{fill_more, fill_room, fill_all}
 use Rattle.judging.proofs.sheet.fill.Goals as goal
 
 pub unreachable-requires : goal.unreachable-requires

@@ -1,6 +1,7 @@
 use Rattle.std.proofs.Common.{◌≡◌, length, sym, ap, ◌∙◌, arith}
 use Rattle.std.proofs.lemmas.List.{length-map}
 use Rattle.std.proofs.lemmas.Result.{err_from_is_err_and}
+use Rattle.lists.specs.Lists.{listed}
 use Rattle.operations.specs.Rooms.{held}
 use Rattle.orders.specs.Places.{top}
 use Rattle.relations.specs.Meanings.{told, meant}
@@ -15,8 +16,8 @@ returns-in_err-found g c =
     let over = c.in_err-found.ensures in
     rw (p.1, p.2) (record { bay = c.loop-number.number; inside = omega (arith, crane_is); within = omega (arith, c.loop-number.invariant.1, c.loop-number.invariant.2); over = omega (arith, over.0, c.loop-number.invariant.1, c.loop-number.invariant.2); refused = over.1 })
 
-pub keep-requires : goal.keep-requires
-keep-requires g c =
+pub add-requires : goal.add-requires
+add-requires g c =
     let rows = c.args.rows.now in let ops = told g.V.Kind.meaning rows in let n = c.loop-number.number in
     let found = c.in_ok-found.ensures in (
       omega (arith, findings_few ops n, ap length c.loop-number.invariant.3),
@@ -32,8 +33,8 @@ loop-number-preserved g c =
       top_more (judged_age ops) n c.loop-number.age order.age c.max-age.result inv.0 found.age c.max-age.ensures,
       total_more (judged_trials ops) n c.loop-number.trials order.trials inv.1 found.trials,
       omega (arith, found.within, inv.2),
-      findings_more ops n (held c.loop-number.findings) (held c.keep.new.findings) order.age order.writes (rows_judgeable g.V.Kind.meaning rows c.requires.1).sourced inv.3 found.age found.writes c.keep.ensures.findings,
-      orders_more ops n (held c.loop-number.orders) (held c.keep.new.orders) _ inv.4 found.order c.keep.ensures.orders,
+      findings_more ops n (held c.loop-number.kept.findings) (held c.add.new.self.findings) order.age (length (listed order.places)) (rows_judgeable g.V.Kind.meaning rows c.requires.1).sourced inv.3 found.age found.writes c.add.ensures.findings,
+      orders_more ops n (held c.loop-number.kept.orders) (held c.add.new.self.orders) _ inv.4 found.order c.add.ensures.orders,
     )
 
 pub returns : goal.returns

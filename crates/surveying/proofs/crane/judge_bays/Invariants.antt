@@ -10,5 +10,5 @@ invariant-loop-number g l =
     (l.age ≡ top l.number (judged_age (told g.V.Kind.meaning l.rows)))
     × (l.trials ≡ trials_below (told g.V.Kind.meaning l.rows) l.number)
     × (l.trials ≤ l.limit)
-    × (held l.findings ≡ findings_below (told g.V.Kind.meaning l.rows) l.number)
-    × (held l.orders ≡ orders_below (told g.V.Kind.meaning l.rows) l.number)
+    × (held l.kept.findings ≡ findings_below (told g.V.Kind.meaning l.rows) l.number)
+    × (held l.kept.orders ≡ orders_below (told g.V.Kind.meaning l.rows) l.number)

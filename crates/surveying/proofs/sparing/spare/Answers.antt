@@ -1,6 +1,6 @@
 use Rattle.std.proofs.lemmas.Result.{err_from_is_err_and}
 use Rattle.relations.specs.Meanings.{told}
-use Rattle.surveying.proofs.Refusing.{refuses_13, refuses_14, refuses_15, spared}
+use Rattle.surveying.proofs.Refusing.{refuses_fault, spared}
 use Rattle.surveying.proofs.sparing.spare.Goals as goal
 
 pub returns-in_err-found : goal.returns-in_err-found
@@ -8,26 +8,13 @@ returns-in_err-found g c =
     let p = err_from_is_err_and c.from_residual.result c.from_residual.ensures.1 in
     rw (p.1, p.2) c.in_err-found.ensures
 
-pub returns-in-Some : goal.returns-in-Some
-returns-in-Some g c =
-    let ops = told g.V.Kind.meaning c.args.rows.now in
+pub returns-in_err-spare : goal.returns-in_err-spare
+returns-in_err-spare g c =
+    let p = err_from_is_err_and c.from_residual-in_err-spare.result c.from_residual-in_err-spare.ensures.1 in
     let found = c.in_ok-found.ensures in
-    refuses_13 ops c.in_ok-found.found found.0 found.1 c.in-Some.place c.in-Some.is
-
-pub returns-in-Some-unwritten : goal.returns-in-Some-unwritten
-returns-in-Some-unwritten g c =
-    let ops = told g.V.Kind.meaning c.args.rows.now in
-    let found = c.in_ok-found.ensures in
-    refuses_14 ops c.in_ok-found.found found.0 found.1 c.in_default.is c.in-Some-unwritten.place c.in-Some-unwritten.is
-
-pub returns-in-Some-foreseen : goal.returns-in-Some-foreseen
-returns-in-Some-foreseen g c =
-    let ops = told g.V.Kind.meaning c.args.rows.now in
-    let found = c.in_ok-found.ensures in
-    refuses_15 ops c.in_ok-found.found found.0 found.1 c.in_default.is c.in_default-unwritten.is c.in-Some-foreseen.place c.in-Some-foreseen.is
+    rw p.1 (refuses_fault (told g.V.Kind.meaning c.args.rows.now) c.in_ok-found.found found.0 found.1 c.in_err-spare.field-0.0 p.0 c.in_err-spare.ensures p.2)
 
 pub returns : goal.returns
 returns g c =
-    let ops = told g.V.Kind.meaning c.args.rows.now in
     let found = c.in_ok-found.ensures in
-    spared ops c.in_ok-found.found found.0 found.1 c.in_default.is c.in_default-unwritten.is c.in_default-foreseen.is
+    spared (told g.V.Kind.meaning c.args.rows.now) c.in_ok-found.found found.0 found.1 c.in_ok-spare.ensures

@@ -2,4 +2,4 @@ use Rattle.trying.specs.Edges.{Bits, is_into}
 use Rattle.trying.proofs.edges.edges_into.Given as goal
 
 abbrev pub invariant-loop-rank : goal.invariant-loop-rank
-invariant-loop-rank g l = Bits l.rank (is_into g.V.Kind.meaning l.writes l.into) l.mask
+invariant-loop-rank l = Bits l.rank (is_into l.writes l.into) l.mask

@@ -1,7 +1,8 @@
-use Rattle.std.proofs.Common.{◌≡◌, length, take}
-use Rattle.gathering.specs.Gathering.{places}
+use Rattle.std.proofs.Common.{◌≡◌, take}
+use Rattle.lists.specs.Lists.{listed}
+use Rattle.gathering.specs.Writes.{places}
 use Rattle.trying.specs.Trying.{placed}
 use Rattle.trying.proofs.judge.placed.Given as goal
 
-abbrev pub invariant-loop-i : goal.invariant-loop-i
-invariant-loop-i g l = (take l.i l.places ≡ placed (places l.writes) (take l.i l.ranks)) × (length l.places ≡ 64)
+abbrev pub invariant-loop-rank : goal.invariant-loop-rank
+invariant-loop-rank l = listed l.places ≡ placed (places l.writes) (take l.rank-index l.ranks)

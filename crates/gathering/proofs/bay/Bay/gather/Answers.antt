@@ -1,7 +1,7 @@
 use Rattle.std.proofs.Common.{not, ◌&&◌, sym, ap, ◌∙◌, subst}
 use Rattle.std.proofs.lemmas.Result.{err_from_is_err_and}
 use Rattle.bays.specs.Faults.{Lowest, faulty, written_twice, unwritten, foreseen}
-use Rattle.operations.specs.Rooms.{held}
+use Rattle.lists.specs.Lists.{listed}
 use Rattle.orders.specs.Orders.{at, of_bay}
 use Rattle.orders.specs.Places.{some}
 use Rattle.relations.specs.Meanings.{told}
@@ -14,8 +14,8 @@ pub gather_reads-reads-requires : goal.gather_reads-reads-requires
 gather_reads-reads-requires g c =
     let m = g.V.Kind.meaning in
     let rows = c.args.rows.now in
-    let wrote = c.in_ok-written_twice.ensures.gathered.0 in
-    seen_none m (told m rows) c.args.number (held c.gather_writes.new.writes) (subst (λ n. Wrote m (told m rows) c.args.number n (held c.gather_writes.new.writes)) (sym (told_length m rows)) wrote)
+    let wrote = c.in_ok-written_twice.ensures.0 in
+    seen_none (told m rows) c.args.number (listed c.gather_writes.new.writes) (subst (λ n. Wrote (told m rows) c.args.number n (listed c.gather_writes.new.writes)) (sym (told_length m rows)) wrote)
 
 pub returns : goal.returns
 returns g c =
@@ -26,9 +26,9 @@ returns g c =
     let found = c.gather_reads-reads.ensures.1 in
     let same = sym (told_length m rows) in
     record {
-      writes = subst (λ n. Seen m ops b n (held c.gather_reads-reads.new.writes)) same c.gather_reads-reads.ensures.0;
+      writes = subst (λ n. Seen ops b n (listed c.gather_reads-reads.new.writes)) same c.gather_reads-reads.ensures.0;
       read = found.any ∙ ap (λ n. some n (λ p. of_bay b (at ops p) && not (at ops p).write)) same;
-      once = subst (λ n. Lowest n (faulty (of_bay b) written_twice ops) c.in_ok-written_twice.written_twice) same c.in_ok-written_twice.ensures.gathered.1;
+      once = subst (λ n. Lowest n (faulty (of_bay b) written_twice ops) c.in_ok-written_twice.written_twice) same c.in_ok-written_twice.ensures.1;
       sourced = subst (λ n. Lowest n (faulty (of_bay b) unwritten ops) c.gather_reads-reads.result.unwritten) same found.lacking;
       unforeseen = subst (λ n. Lowest n (faulty (of_bay b) foreseen ops) c.gather_reads-reads.result.foreseen) same found.early;
     }
@@ -36,4 +36,4 @@ returns g c =
 pub returns-in_err-written_twice : goal.returns-in_err-written_twice
 returns-in_err-written_twice g c =
     let p = err_from_is_err_and c.from_residual.result c.from_residual.ensures.1 in
-    rw p.1 c.in_err-written_twice.ensures.gathered
+    rw p.1 c.in_err-written_twice.ensures
