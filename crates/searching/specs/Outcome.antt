@@ -1,7 +1,8 @@
 -- What the search says. Assumes nothing.
-use Rattle.std.specs.Prelude.{ℕ, ◌<◌, ◌≤◌, List, length, take, Result, MatchResult}
+use Rattle.std.specs.Prelude.{ℕ, ◌<◌, ◌≤◌, List, map, length, take, Result, MatchResult}
 use Rattle.orders.specs.RunUps.{Graph, Tried, NoneFor, NoneBelow, TrialsUpTo}
 use Rattle.searching.specs.Masks.{mask_graph}
+use Rattle.searching.specs.declared.edges.EdgeMasks.{EdgeMasks}
 use Rattle.searching.specs.declared.search.FirstOrder.{FirstOrder}
 use Rattle.searching.specs.declared.search.NotFound.{NotFound}
 use Rattle.searching.specs.declared.search.NotFound.TheVariants.{OverLimit, NoOrder}
@@ -15,9 +16,16 @@ abbrev pub Missed : (g : Graph) (n limit : ℕ) → NotFound → Type 0
 Missed g n limit OverLimit = (k : ℕ) × (c : ℕ) × (1 ≤ k) × (k ≤ n) × NoneBelow g k × TrialsUpTo g k c × (limit < c)
 Missed g n limit NoOrder = (k : ℕ) → 1 ≤ k → NoneFor g k
 
--- what two tables of masks, one for each write, are found to have
-abbrev pub Searched : (before behind : List ℕ) (limit : ℕ) → Result FirstOrder NotFound → Type 0
-Searched before behind limit r =
-    let n = length before in
-    let g = mask_graph n before behind in
+-- the edges into the writes, and those from them
+abbrev pub befores : List EdgeMasks → List ℕ
+befores masks = map (λ m. m.before) masks
+
+abbrev pub behinds : List EdgeMasks → List ℕ
+behinds masks = map (λ m. m.behind) masks
+
+-- what the edges at each write are found to have
+abbrev pub Searched : List EdgeMasks → (limit : ℕ) → Result FirstOrder NotFound → Type 0
+Searched masks limit r =
+    let n = length masks in
+    let g = mask_graph n (befores masks) (behinds masks) in
     MatchResult r (Found g n limit) (Missed g n limit)

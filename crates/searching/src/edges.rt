@@ -1,12 +1,16 @@
-// The edges between the writes of one bay, as tables of masks.
-ghost use Rattle.std.specs.Prelude.{◌≡◌, ◌≤◌, length};
+// The edges between the writes of one bay, as masks.
+ghost use Rattle.std.specs.Prelude.{◌≤◌, length};
 
-// Both tables have one mask for each write. `before` has, for a write v, the writes with a write edge into v; `behind` has, for a
-// write u, the writes that u has a read edge to.
+// The edges at one write: the writes with a write edge into it, and those that it has a read edge to.
+#[derive(Clone, Copy)]
+pub struct EdgeMasks {
+    pub before: u64,
+    pub behind: u64,
+}
+
+// The edges at each write.
 #[derive(Clone, Copy)]
 pub struct Edges<'a> {
-    pub before: &'a [u64],
-    pub behind: &'a [u64],
-    ghost paired: { length behind.now ≡ length before.now },
-    ghost few: { length before.now ≤ 64 },
+    pub masks: &'a [EdgeMasks],
+    ghost few: { length masks.now ≤ 64 },
 }

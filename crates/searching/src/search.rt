@@ -32,9 +32,9 @@ fn counted(trials: u32, limit: u32) -> Result<u32, NotFound>
 impl<'a> Edges<'a> {
     // From k = n on no read edge binds, so that a larger k has no more value orders.
     pub fn search(&self, limit: u32) -> Result<FirstOrder, NotFound>
-        ensures { Searched self.now.before.now self.now.behind.now limit result }
+        ensures { Searched self.now.masks.now limit result }
     {
-        let n = self.before.len();
+        let n = self.masks.len();
         let mut standing = Standing::none(n);
         let mut trials: u32 = 0;
         let mut k: usize = 1;
@@ -42,7 +42,8 @@ impl<'a> Edges<'a> {
             let mut write: usize = 0;
             'place: loop {
                 'pick: while write < n {
-                    if standing.may_take(write, self.before[write], self.behind[write]) {
+                    let masks = self.masks[write];
+                    if standing.may_take(write, masks.before, masks.behind) {
                         trials = counted(trials, limit)?;
                         standing.push(write, k);
                         if standing.count == n {

@@ -1,11 +1,13 @@
 -- Masks with one bit more. Assumes nothing.
-use Rattle.std.proofs.Common.{◌≡◌, ℕ, ◌+◌, ◌%◌, ◌^◌, ◌<◌, ◌≤◌, Bool, true, false, ◌&&◌, ◌||◌, eqb, ltb, ◌⊎◌, List, length, get_or, set, None, sym, refl, ap, ◌∙◌, subst, inl, inr, arith}
+use Rattle.std.proofs.Common.{◌≡◌, ℕ, ◌+◌, ◌%◌, ◌^◌, ◌<◌, ◌≤◌, Bool, true, false, ◌&&◌, ◌||◌, eqb, ltb, ◌⊎◌, List, [], ◌∷◌, ◌++◌, length, get_or, None, sym, refl, ap, ◌∙◌, subst, inl, inr, arith}
 use native.Mathlib.Nat.{zero-div}
-use Rattle.std.proofs.lemmas.List.{length-set, get_or_default, get_or-map, get_or-set_same, get_or-set_other}
-use Rattle.std.proofs.lemmas.Bool.{cases_eq, cases_order, eq-eqb, ne_eqb, lt-ltb, le-ltb}
+use Rattle.std.proofs.lemmas.List.{get_or_default, get_or-map}
+use Rattle.std.proofs.lemmas.Bool.{cases_order, eq-eqb, ne_eqb, lt-ltb, le-ltb}
+use Rattle.operations.proofs.Checks.{each_push}
+use Rattle.searching.specs.declared.edges.EdgeMasks.{EdgeMasks}
 use Rattle.masks.specs.Masks.{has_bit, Added}
 use Rattle.gathering.specs.declared.write.Write.{Write}
-use Rattle.trying.specs.Edges.{Bits, finishes, last_reads, is_into, is_from, TablesOf}
+use Rattle.trying.specs.Edges.{Bits, finishes, last_reads, is_into, is_from, EdgesAt, EdgesOf}
 
 -- the finish and the last read of what stands at a rank
 module _ (ws : List Write) (i : ℕ) (d : Write) (h : i < length ws) where
@@ -43,26 +45,8 @@ module _ (n : ℕ) (test : ℕ → Bool) (mask : ℕ) (bits : Bits n test mask) 
       go (inr (inl lt)) = rw (lt-ltb i n lt, lt-ltb i (n + 1) (omega arith))
       go (inr (inr gt)) = rw (le-ltb i n (omega arith), le-ltb i (n + 1) (omega arith))
 
--- one write more
-module _ (ws : List Write) (n : ℕ) (before behind : List ℕ) (tables : TablesOf ws n before behind) (d : Write) where
-  pub tables_more : n < 64 → n < length ws → (into from : ℕ) → Bits (length ws) (is_into ws (get_or ws n d)) into → Bits (length ws) (is_from ws n (get_or ws n d)) from → TablesOf ws (n + 1) (set before n into) (set behind n from)
-  tables_more h lies into from e f = record {
-    before_room = length-set before n into ∙ tables.before_room;
-    behind_room = length-set behind n from ∙ tables.behind_room;
-    into = λ v w lt s. go_into v w lt s (cases_eq v n);
-    from = λ u w lt s. go_from u w lt s (cases_eq u n);
-  }
-    where
-      x : Write
-      x = get_or ws n d
-
-      same : (v : ℕ) (w : Write) → v ≡ n → w ≡ get_or ws v w → x ≡ w
-      same v w q s = get_or_default ws n d w lies ∙ ap (λ i. get_or ws i w) (sym q) ∙ sym s
-
-      go_into : (v : ℕ) (w : Write) → v < n + 1 → w ≡ get_or ws v w → ((v ≡ n) ⊎ (v ≡ n → ⊥)) → Bits (length ws) (is_into ws w) (get_or (set before n into) v 0)
-      go_into v w lt s (inl q) = subst (Bits (length ws) (is_into ws w)) (sym (ap (λ i. get_or (set before n into) i 0) q ∙ get_or-set_same before n into 0 (omega (arith, tables.before_room)))) (subst (λ y. Bits (length ws) (is_into ws y) into) (same v w q s) e)
-      go_into v w lt s (inr d) = subst (Bits (length ws) (is_into ws w)) (sym (get_or-set_other before n v into 0 d)) (tables.into v w (omega arith) s)
-
-      go_from : (u : ℕ) (w : Write) → u < n + 1 → w ≡ get_or ws u w → ((u ≡ n) ⊎ (u ≡ n → ⊥)) → Bits (length ws) (is_from ws u w) (get_or (set behind n from) u 0)
-      go_from u w lt s (inl q) = subst (Bits (length ws) (is_from ws u w)) (sym (ap (λ i. get_or (set behind n from) i 0) q ∙ get_or-set_same behind n from 0 (omega (arith, tables.behind_room)))) (subst (λ i. Bits (length ws) (is_from ws i w) from) (sym q) (subst (λ y. Bits (length ws) (is_from ws n y) from) (same u w q s) f))
-      go_from u w lt s (inr d) = subst (Bits (length ws) (is_from ws u w)) (sym (get_or-set_other behind n u from 0 d)) (tables.from u w (omega arith) s)
+-- the edges of one write more
+pub edges_more : (ws : List Write) (edges : List EdgeMasks) (n : ℕ) (d : Write) (x : EdgeMasks) → EdgesOf ws edges → length edges ≡ n → n < length ws → Bits (length ws) (is_into ws (get_or ws n d)) x.before → Bits (length ws) (is_from ws n (get_or ws n d)) x.behind → EdgesOf ws (edges ++ (x ∷ []))
+edges_more ws edges n d x so_far e lies into from = each_push (EdgesAt ws) edges x so_far (subst (λ rank. EdgesAt ws rank x) (sym e) (λ w s.
+    let same : get_or ws n d ≡ w = get_or_default ws n d w lies ∙ sym s in
+    (subst (λ y. Bits (length ws) (is_into ws y) x.before) same into, subst (λ y. Bits (length ws) (is_from ws n y) x.behind) same from)))

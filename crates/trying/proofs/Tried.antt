@@ -1,6 +1,6 @@
 -- What the search over masks says of the bay's writes. Assumes nothing.
 use Rattle.std.proofs.Common.{◌≡◌, ℕ, ◌<◌, ◌≤◌, cond, List, [], length, get_or, take, Ok, Err, Result, sym, refl, ap, ◌∙◌, subst, arith}
-use Rattle.std.proofs.lemmas.List.{get_or-take, length-take-le}
+use Rattle.std.proofs.lemmas.List.{get_or-map}
 use Rattle.masks.specs.Masks.{has_bit}
 use Rattle.lists.specs.Lists.{listed}
 use Rattle.orders.specs.Claims.{Judgeable}
@@ -15,7 +15,8 @@ use Rattle.gathering.specs.declared.write.Write.{Write}
 use Rattle.gathering.specs.Gathering.{Seen, Gathered}
 use Rattle.gathering.specs.Writes.{places}
 use Rattle.searching.specs.Masks.{mask_graph}
-use Rattle.searching.specs.Outcome.{Found, Missed}
+use Rattle.searching.specs.Outcome.{befores, behinds, Found, Missed}
+use Rattle.searching.specs.declared.edges.EdgeMasks.{EdgeMasks}
 use Rattle.searching.specs.declared.search.FirstOrder.{FirstOrder}
 use Rattle.searching.specs.declared.search.NotFound.{NotFound}
 use Rattle.searching.specs.declared.search.NotFound.TheVariants.{OverLimit, NoOrder}
@@ -28,14 +29,18 @@ use Rattle.trying.proofs.Masked.{bits_at}
 
 -- ranks that the search found are ranks
 pub ranks_found : (ws : List Write) (limit : ℕ) (f : FirstOrder) → length ws ≤ 64 → RanksSearched ws limit (Ok f) → RanksUpTo (length ws) f.writes
-ranks_found ws limit f few s = go (length (take (length ws) s.before)) (length-take-le (length ws) s.before (omega (arith, s.tables.before_room))) s.searched
+ranks_found ws limit f few s = go (length s.edges) s.all s.searched
   where
-    go : (n : ℕ) → n ≡ length ws → Found (mask_graph n (take (length ws) s.before) (take (length ws) s.behind)) n limit f → RanksUpTo (length ws) f.writes
-    go n e found = subst (λ k. RanksUpTo k f.writes) e (entry_below (mask_graph n (take (length ws) s.before) (take (length ws) s.behind)) n f.age (λ p. refl) f.writes found.0.first.order)
+    go : (n : ℕ) → n ≡ length ws → Found (mask_graph n (befores s.edges) (behinds s.edges)) n limit f → RanksUpTo (length ws) f.writes
+    go n e found = subst (λ k. RanksUpTo k f.writes) e (entry_below (mask_graph n (befores s.edges) (behinds s.edges)) n f.age (λ p. refl) f.writes found.0.first.order)
 
 module _ (ops : List Operation) (b : ℕ) (ws : List Write) (seen : Seen ops b (length ops) ws) (dist : Distinct ops (of_bay b)) (limit : ℕ) (r : Result FirstOrder NotFound) (s : RanksSearched ws limit r) where
+  -- no edges
+  none : EdgeMasks
+  none = record { before = 0; behind = 0 }
+
   -- the masks say the writes of the bay and their edges, by rank
-  renamed : (n : ℕ) → n ≡ length ws → Renamed (mask_graph n (take (length ws) s.before) (take (length ws) s.behind)) (bay_graph ops b) n (λ i. get_or (write_places ops b) i 0)
+  renamed : (n : ℕ) → n ≡ length ws → Renamed (mask_graph n (befores s.edges) (behinds s.edges)) (bay_graph ops b) n (λ i. get_or (write_places ops b) i 0)
   renamed n e = record {
     ranks = λ i. refl;
     rising = λ i j l h. places_rising ops b i j l (omega (arith, count ops b ws seen));
@@ -44,14 +49,14 @@ module _ (ops : List Operation) (b : ℕ) (ws : List Write) (seen : Seen ops b (
     write_edges = λ i j h l.
         let v = ranked ws i (omega arith) in
         let w = ranked ws j (omega arith) in
-        ap (λ mask. has_bit mask i) (get_or-take (length ws) s.before j 0 (omega arith))
-        ∙ bits_at (length ws) (is_into ws w.0) (get_or s.before j 0) (s.tables.into j w.0 (omega arith) w.1) i (omega arith)
+        ap (λ mask. has_bit mask i) (get_or-map (λ m. m.before) s.edges j none 0 (omega (arith, s.all)))
+        ∙ bits_at (length ws) (is_into ws w.0) (get_or s.edges j none).before (s.at_ranks j none (omega (arith, s.all)) w.0 w.1).0 i (omega arith)
         ∙ into_is ops b ws seen dist i j v.0 w.0 (omega arith) (omega arith) v.1 w.1;
     read_edges = λ i j h l.
         let v = ranked ws i (omega arith) in
         let w = ranked ws j (omega arith) in
-        ap (λ mask. has_bit mask j) (get_or-take (length ws) s.behind i 0 (omega arith))
-        ∙ bits_at (length ws) (is_from ws i v.0) (get_or s.behind i 0) (s.tables.from i v.0 (omega arith) v.1) j (omega arith)
+        ap (λ mask. has_bit mask j) (get_or-map (λ m. m.behind) s.edges i none 0 (omega (arith, s.all)))
+        ∙ bits_at (length ws) (is_from ws i v.0) (get_or s.edges i none).behind (s.at_ranks i none (omega (arith, s.all)) v.0 v.1).1 j (omega arith)
         ∙ from_is ops b ws seen dist i j v.0 w.0 (omega arith) (omega arith) v.1 w.1;
   }
 
@@ -70,9 +75,9 @@ module _ (ops : List Operation) (b : ℕ) (bay : Bay) (gathered : Gathered ops b
     -- the order that is found of one with a write
     pub judged_found : (f : FirstOrder) (order : List ℕ) (age : ℕ) → 0 < length (listed bay.writes) → RanksSearched (listed bay.writes) limit (Ok f) → order ≡ placed (places (listed bay.writes)) (take (length (listed bay.writes)) f.writes) → length order ≡ length (listed bay.writes) → age ≡ cond bay.read f.age 0 → BayJudged ops b age f.trials order × (f.trials ≤ limit) × (length order ≡ write_count ops b)
     judged_found f order age some s same all aged =
-        go (length (take (length (listed bay.writes)) s.before)) (length-take-le (length (listed bay.writes)) s.before (omega (arith, s.tables.before_room, gathered.writes.few))) s.searched
+        go (length s.edges) s.all s.searched
       where
-        go : (n : ℕ) → n ≡ length (listed bay.writes) → Found (mask_graph n (take (length (listed bay.writes)) s.before) (take (length (listed bay.writes)) s.behind)) n limit f → BayJudged ops b age f.trials order × (f.trials ≤ limit) × (length order ≡ write_count ops b)
+        go : (n : ℕ) → n ≡ length (listed bay.writes) → Found (mask_graph n (befores s.edges) (behinds s.edges)) n limit f → BayJudged ops b age f.trials order × (f.trials ≤ limit) × (length order ≡ write_count ops b)
         go n e found =
             let x = renamed ops b (listed bay.writes) gathered.writes ready.distinct limit (Ok f) s n e in
             let t = tried_renamed x f.age f.trials (take n f.writes) found.0 in (
@@ -85,12 +90,12 @@ module _ (ops : List Operation) (b : ℕ) (bay : Bay) (gathered : Gathered ops b
 
     -- and none is found because its trials pass the limit
     pub judged_missed : 0 < length (listed bay.writes) → (e : NotFound) → RanksSearched (listed bay.writes) limit (Err e) → Overrun ops b limit
-    judged_missed some why s = go (length (take (length (listed bay.writes)) s.before)) (length-take-le (length (listed bay.writes)) s.before (omega (arith, s.tables.before_room, gathered.writes.few))) why refl s.searched
+    judged_missed some why s = go (length s.edges) s.all why refl s.searched
       where
         first : ℕ
         first = get_or (write_places ops b) 0 0
 
-        go : (n : ℕ) → n ≡ length (listed bay.writes) → (e : NotFound) → why ≡ e → Missed (mask_graph n (take (length (listed bay.writes)) s.before) (take (length (listed bay.writes)) s.behind)) n limit e → Overrun ops b limit
+        go : (n : ℕ) → n ≡ length (listed bay.writes) → (e : NotFound) → why ≡ e → Missed (mask_graph n (befores s.edges) (behinds s.edges)) n limit e → Overrun ops b limit
         go n e OverLimit q missed =
             let x = renamed ops b (listed bay.writes) gathered.writes ready.distinct limit (Err why) s n e in
             overrun ops b ready first (place_writes ops b 0 (omega (arith, number, places_count ops b))) missed.0 missed.1 limit (none_below_renamed x missed.0 missed.4) (trials_up_to_renamed x missed.0 missed.1 missed.5) missed.6

@@ -2,6 +2,7 @@
 use Rattle.std.specs.Prelude.{◌≡◌, ℕ, ◌<◌, Bool, false, not, ◌&&◌, List, map, length, Some, None, Option, ◌==◌, nat_lt, slice_index, slice_index_or}
 use Rattle.masks.specs.Masks.{has_bit}
 use Rattle.gathering.specs.declared.write.Write.{Write}
+use Rattle.searching.specs.declared.edges.EdgeMasks.{EdgeMasks}
 
 -- the mask has exactly those below n that pass the test
 abbrev pub Bits : ℕ → (ℕ → Bool) → ℕ → Type 0
@@ -28,9 +29,10 @@ is_into ws v u = nat_lt (slice_index (finishes ws) u) v.start
 abbrev pub is_from : List Write → ℕ → Write → ℕ → Bool
 is_from ws from u v = not (v == from) && before_last u.finish (slice_index_or (last_reads ws) v None)
 
--- of the first n writes, by rank, the writes with a write edge into them, and those that they have a read edge to
-pub record TablesOf (ws : List Write) (n : ℕ) (before behind : List ℕ) : Type 0 where
-  pub before_room : length before ≡ 64
-  pub behind_room : length behind ≡ 64
-  pub into : (v : ℕ) (w : Write) → v < n → w ≡ slice_index_or ws v w → Bits (length ws) (is_into ws w) (slice_index before v)
-  pub from : (u : ℕ) (w : Write) → u < n → w ≡ slice_index_or ws u w → Bits (length ws) (is_from ws u w) (slice_index behind u)
+-- the write of a rank has these edges: the writes with a write edge into it, and those that it has a read edge to
+abbrev pub EdgesAt : List Write → ℕ → EdgeMasks → Type 0
+EdgesAt ws rank masks = (w : Write) → w ≡ slice_index_or ws rank w → Bits (length ws) (is_into ws w) masks.before × Bits (length ws) (is_from ws rank w) masks.behind
+
+-- those of the first writes, by rank
+abbrev pub EdgesOf : List Write → List EdgeMasks → Type 0
+EdgesOf ws edges = (rank : ℕ) (d : EdgeMasks) → rank < length edges → EdgesAt ws rank (slice_index_or edges rank d)

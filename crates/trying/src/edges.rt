@@ -1,19 +1,13 @@
 // The edges between the writes of a bay, as masks of ranks.
 ghost use Rattle.std.specs.Prelude.{◌≡◌, ◌≤◌, not, ◌&&◌, length, ◌==◌};
 ghost use Rattle.lists.specs.Lists.{listed};
-ghost use Rattle.trying.specs.Edges.{Bits, before_last, is_into, is_from, TablesOf};
+ghost use Rattle.trying.specs.Edges.{Bits, before_last, is_into, is_from, EdgesOf};
 
 use gathering::bay::Bay;
-use gathering::write::Write;
+use gathering::write::{MOST_WRITES, Write};
+use lists::ArrayList;
 use masks::with_bit;
-
-// Both tables have a mask of ranks for each write, by rank: `before` has the writes with a write edge into it, `behind` those that
-// it has a read edge to.
-#[derive(Clone, Copy)]
-pub(crate) struct Tables {
-    pub(crate) before: [u64; 64],
-    pub(crate) behind: [u64; 64],
-}
+use searching::edges::EdgeMasks;
 
 // Whether a write, shortened, is before the last read of another; then it is before some read of it.
 fn before_last(finish: u32, last: Option<u32>) -> bool
@@ -57,16 +51,21 @@ fn edges_from(writes: &[Write], from: usize, write: &Write) -> u64
     mask
 }
 
-// The edges between all writes of a bay.
-pub(crate) fn edges_between(bay: &Bay) -> Tables
-    ensures { TablesOf (listed bay.now.writes) (length (listed bay.now.writes)) result.before result.behind }
+// The edges at each write of a bay, by rank.
+pub(crate) fn edges_between(bay: &Bay) -> ArrayList<EdgeMasks, MOST_WRITES>
+    ensures edges { EdgesOf (listed bay.now.writes) (listed result) }
+    ensures all { length (listed result) ≡ length (listed bay.now.writes) }
 {
     let writes = bay.writes.as_slice();
-    let mut before = [0; 64];
-    let mut behind = [0; 64];
+    let mut edges = ArrayList::new();
     for (rank, write) in writes.iter().enumerate() {
-        before[rank] = edges_into(writes, write);
-        behind[rank] = edges_from(writes, rank, write);
+        let masks = EdgeMasks {
+            before: edges_into(writes, write),
+            behind: edges_from(writes, rank, write),
+        };
+        let Ok(()) = edges.push(masks) else {
+            unreachable()
+        };
     }
-    Tables { before, behind }
+    edges
 }

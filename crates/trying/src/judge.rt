@@ -38,11 +38,9 @@ pub fn judge_bay(bay: &Bay, limit: u32) -> Result<BayOrder, NotFound>
 fn search(bay: &Bay, limit: u32) -> Result<FirstOrder, NotFound>
     ensures { RanksSearched (listed bay.now.writes) limit result }
 {
-    let tables = edges_between(bay);
-    let count = bay.writes.len();
+    let found = edges_between(bay);
     let edges = Edges {
-        before: &tables.before[..count],
-        behind: &tables.behind[..count],
+        masks: found.as_slice(),
     };
     edges.search(limit)
 }

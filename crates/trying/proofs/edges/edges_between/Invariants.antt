@@ -1,5 +1,7 @@
-use Rattle.trying.specs.Edges.{TablesOf}
+use Rattle.std.proofs.Common.{◌≡◌, length}
+use Rattle.lists.specs.Lists.{listed}
+use Rattle.trying.specs.Edges.{EdgesOf}
 use Rattle.trying.proofs.edges.edges_between.Given as goal
 
 abbrev pub invariant-loop-rank : goal.invariant-loop-rank
-invariant-loop-rank l = TablesOf l.writes l.rank l.before l.behind
+invariant-loop-rank l = EdgesOf l.writes (listed l.edges) × (length (listed l.edges) ≡ l.rank)

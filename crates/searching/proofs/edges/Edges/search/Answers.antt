@@ -1,15 +1,23 @@
 -- Each step of the loops is a step of the listing.
-use Rattle.std.proofs.Common.{◌+◌, length, sym, refl, ap, subst, arith}
+use Rattle.std.proofs.Common.{◌≡◌, ℕ, ◌+◌, ◌<◌, Bool, List, length, get_or, sym, refl, ap, ◌∙◌, subst, ap₂, arith}
+use Rattle.std.proofs.lemmas.List.{get_or-map}
 use Rattle.std.proofs.lemmas.Result.{err_from_is_err_and}
+use Rattle.searching.specs.Outcome.{befores, behinds}
+use Rattle.searching.specs.Standing.{free}
+use Rattle.searching.specs.declared.edges.EdgeMasks.{EdgeMasks}
 use Rattle.searching.proofs.Masked.{Sound, sound_started, sound_again, holds}
 use Rattle.searching.proofs.Ages.{trials_more, trials_next, none_more, none_beyond}
 use Rattle.searching.proofs.State.{enter, skip, push, push_less, pop, pop_less, top_below, found, over, nothing}
 use Rattle.searching.proofs.edges.Edges.search.Goals as goal
 
+-- what may be taken is decided by the tables of the edges at each write
+taken : {b : Bool} → (masks : List EdgeMasks) (write : ℕ) → write < length masks → (absent far : ℕ) → b ≡ free write (get_or masks write (record { before = 0; behind = 0 })).before (get_or masks write (record { before = 0; behind = 0 })).behind absent far → b ≡ free write (get_or (befores masks) write 0) (get_or (behinds masks) write 0) absent far
+taken masks write h absent far e = e ∙ ap₂ (λ before behind. free write before behind absent far) (sym (get_or-map (λ m. m.before) masks write _ 0 h)) (sym (get_or-map (λ m. m.behind) masks write _ 0 h))
+
 pub ages-init : goal.ages-init
 ages-init c =
     let is = c.none-standing.ensures in (
-      subst (Sound (length c.args.self.now.before.now) 1) (sym is) (sound_started _ 1 c.args.self.now.few (omega arith)),
+      subst (Sound (length c.args.self.now.masks.now) 1) (sym is) (sound_started _ 1 c.args.self.now.few (omega arith)),
       ap (λ s. s.count) is,
       omega arith,
       omega arith,
@@ -25,7 +33,7 @@ returns-in_err-trials c =
     let p = err_from_is_err_and c.from_residual.result c.from_residual.ensures.1 in
     let over-limit = c.in_err-trials.ensures in
     let at = c.pick.invariant.0 c.ages.trials c.place.invariant in
-    let passes = over at c.pick-test.true c.if-may_take.ensures over-limit.0 in
+    let passes = over at c.pick-test.true (taken c.args.self.now.masks.now c.pick.write c.pick-test.true _ _ c.if-may_take.ensures) over-limit.0 in
     let own = at.sound.some_k in
     let tried = c.ages.invariant.2 in
     rw (p.1, p.2, over-limit.1) (
@@ -46,17 +54,17 @@ push-requires c =
 pub place-smaller-then-may_take : goal.place-smaller-then-may_take
 place-smaller-then-may_take c =
     let at = c.pick.invariant.0 c.ages.trials c.place.invariant in
-    let less = push_less at c.pick-test.true c.if-may_take.ensures _ c.push.ensures _ c.in_ok-trials.ensures.0 c.in_ok-trials.ensures.1 in
+    let less = push_less at c.pick-test.true (taken c.args.self.now.masks.now c.pick.write c.pick-test.true _ _ c.if-may_take.ensures) _ c.push.ensures _ c.in_ok-trials.ensures.0 c.in_ok-trials.ensures.1 in
     omega (arith, c.pick.invariant.1)
 
 pub place-preserved-then-may_take : goal.place-preserved-then-may_take
 place-preserved-then-may_take c =
     let at = c.pick.invariant.0 c.ages.trials c.place.invariant in
-    push at c.pick-test.true c.if-may_take.ensures _ c.push.ensures _ c.in_ok-trials.ensures.0 c.in_ok-trials.ensures.1 c.if-standing-n.false
+    push at c.pick-test.true (taken c.args.self.now.masks.now c.pick.write c.pick-test.true _ _ c.if-may_take.ensures) _ c.push.ensures _ c.in_ok-trials.ensures.0 c.in_ok-trials.ensures.1 c.if-standing-n.false
 
 pub pick-preserved : goal.pick-preserved
 pick-preserved c = (
-  λ from at. skip (c.pick.invariant.0 from at) c.pick-test.true c.if-may_take.ensures,
+  λ from at. skip (c.pick.invariant.0 from at) c.pick-test.true (taken c.args.self.now.masks.now c.pick.write c.pick-test.true _ _ c.if-may_take.ensures),
   omega (arith, c.pick.invariant.1),
 )
 
@@ -86,7 +94,7 @@ pub returns-then-k-n : goal.returns-then-k-n
 returns-then-k-n c =
     let at = c.pick.invariant.0 c.ages.trials c.place.invariant in
     let none = nothing at c.pick-test.false c.if-standing-eq0.true in
-    none_beyond _ (length c.args.self.now.before.now) c.ages.k (λ _. refl) at.sound.some_k c.if-k-n.true (none_more _ c.ages.k c.ages.invariant.5 none.0)
+    none_beyond _ (length c.args.self.now.masks.now) c.ages.k (λ _. refl) at.sound.some_k c.if-k-n.true (none_more _ c.ages.k c.ages.invariant.5 none.0)
 
 pub ages-preserved : goal.ages-preserved
 ages-preserved c =
@@ -104,7 +112,7 @@ ages-preserved c =
 pub returns : goal.returns
 returns c =
     let at = c.pick.invariant.0 c.ages.trials c.place.invariant in
-    let first = found at c.pick-test.true c.if-may_take.ensures _ c.push.ensures _ c.in_ok-trials.ensures.1 c.if-standing-n.true in
+    let first = found at c.pick-test.true (taken c.args.self.now.masks.now c.pick.write c.pick-test.true _ _ c.if-may_take.ensures) _ c.push.ensures _ c.in_ok-trials.ensures.1 c.if-standing-n.true in
     let own = at.sound.some_k in (
       record {
         from_one = own;
