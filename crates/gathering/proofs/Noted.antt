@@ -6,7 +6,7 @@ use Rattle.bays.specs.Faults.{Lowest, faulty, unwritten, foreseen}
 use Rattle.bays.specs.Writes.{write_places}
 use Rattle.bays.proofs.Faulty.{unwritten_ranked, unwritten_not, foreseen_some, foreseen_none, foreseen_not}
 use Rattle.gathering.specs.declared.reads.Reads.{Reads}
-use Rattle.gathering.specs.declared.write.Write.{Write}
+use Rattle.gathering.specs.Spans.{Span}
 use Rattle.gathering.specs.Gathering.{ReadsUpTo, noted, Seen}
 use Rattle.gathering.specs.Writes.{ReadAdded}
 use Rattle.gathering.proofs.Lows.{lowest_yes, lowest_no}
@@ -41,13 +41,13 @@ module _ (ops : List Operation) (b n : ℕ) (within : n < length ops) (r : Reads
   noted_some e true u f = record { any = some_more true e; lacking = lowest_no _ n r.unwritten so_far.lacking u; early = lowest_yes _ n r.foreseen so_far.early f }
   noted_some e false u f = record { any = some_more true e; lacking = lowest_no _ n r.unwritten so_far.lacking u; early = lowest_no _ n r.foreseen so_far.early f }
 
-  module _ (ws : List Write) (seen : Seen ops b n ws) where
+  module _ (ws : List Span) (seen : Seen ops b n ws) where
     -- another operation
     pub other_step : (of_bay b (at ops n) && not (at ops n).write) ≡ false → Seen ops b (n + 1) ws × ReadsUpTo ops b (n + 1) r
     other_step e = (seen_not ops b n ws seen within e, noted_not e)
 
     -- a read of the bay
-    pub read_step : (of_bay b (at ops n) && not (at ops n).write) ≡ true → (is : List Write) (answer : Option Bool) → ReadAdded ops ws n is answer → Seen ops b (n + 1) is × ReadsUpTo ops b (n + 1) (noted r n answer)
+    pub read_step : (of_bay b (at ops n) && not (at ops n).write) ≡ true → (is : List Span) (answer : Option Bool) → ReadAdded ops ws n is answer → Seen ops b (n + 1) is × ReadsUpTo ops b (n + 1) (noted r n answer)
     read_step e is None added =
         let low = lowest_rank ops b n ws seen within None added.0 in
         (subst (Seen ops b (n + 1)) (sym added.1) (seen_unwritten ops b n ws seen within added.0), noted_none e (unwritten_ranked ops b n within e None low) (foreseen_none ops b n within e low))

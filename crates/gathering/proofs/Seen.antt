@@ -7,7 +7,7 @@ use Rattle.orders.proofs.Operations.{Writing, like, alike_join, reading, writing
 use Rattle.bays.specs.Faults.{Lowest}
 use Rattle.bays.specs.Writes.{write_places}
 use Rattle.bays.proofs.Ranks.{place_below, place_writes, places_apart}
-use Rattle.gathering.specs.declared.write.Write.{Write}
+use Rattle.gathering.specs.Spans.{Span}
 use Rattle.gathering.specs.Gathering.{LastRead, AsLeft, Wrote, Seen}
 use Rattle.gathering.specs.Writes.{places, same_value, read_by, PlacesBelow}
 use Rattle.gathering.proofs.Spanned.{soonest_no, soonest_yes, last_no, last_yes}
@@ -19,7 +19,7 @@ fails false h = refl
 
 module _ (ops : List Operation) (b : ℕ) where
   -- before any read
-  pub seen_none : (ws : List Write) → Wrote ops b (length ops) ws → Seen ops b 0 ws
+  pub seen_none : (ws : List Span) → Wrote ops b (length ops) ws → Seen ops b 0 ws
   seen_none ws w = record {
     ranked = w.ranked;
     few = w.few;
@@ -30,11 +30,11 @@ module _ (ops : List Operation) (b : ℕ) where
     };
   }
 
-  module _ (n : ℕ) (ws : List Write) (seen : Seen ops b n ws) where
+  module _ (n : ℕ) (ws : List Span) (seen : Seen ops b n ws) where
     count : length ws ≡ length (write_places ops b)
     count = sym (length-map ws (λ w. w.place)) ∙ ap length seen.ranked
 
-    pub place_of : (i : ℕ) (d : Write) → i < length ws → (get_or ws i d).place ≡ get_or (write_places ops b) i 0
+    pub place_of : (i : ℕ) (d : Span) → i < length ws → (get_or ws i d).place ≡ get_or (write_places ops b) i 0
     place_of i d h = sym (get_or-map (λ w. w.place) ws i d 0 h) ∙ ap (λ l. get_or l i 0) seen.ranked
 
     -- each stands among the operations
@@ -42,12 +42,12 @@ module _ (ops : List Operation) (b : ℕ) where
     seen_below i h = subst (λ l. get_or l i 0 < length ops) (sym seen.ranked) (place_below ops b i (omega (arith, count)))
 
     -- what stands at a rank is a write of the bay
-    rank_writes : (i : ℕ) (d : Write) → i < length ws → Writing ops b (get_or ws i d).place
+    rank_writes : (i : ℕ) (d : Span) → i < length ws → Writing ops b (get_or ws i d).place
     rank_writes i d h = writing ops b _ (subst (λ p. writes ops b p ≡ true) (sym (place_of i d h)) (place_writes ops b i (omega (arith, count))))
 
     module _ (within : n < length ops) where
       -- whether its value is that of the operation at n
-      rank_same : (i : ℕ) (d : Write) → i < length ws → same_value ops ws n i ≡ alike (at ops (get_or ws i d).place) (at ops n)
+      rank_same : (i : ℕ) (d : Span) → i < length ws → same_value ops ws n i ≡ alike (at ops (get_or ws i d).place) (at ops n)
       rank_same i d h = ap (λ p. alike (at ops p) (at ops n)) (get_or-map (λ w. w.place) ws i d 0 h)
 
       -- the lowest rank of the operation's value
@@ -57,7 +57,7 @@ module _ (ops : List Operation) (b : ℕ) where
           (subst (λ k. Lowest k (same_value ops ws n) r) (sym (length-map ws (λ w. w.place))) l)
 
       -- the operation reads no write
-      module _ (none : (i : ℕ) (d : Write) → i < length ws → reads (at ops n) (at ops (get_or ws i d).place) ≡ false) where
+      module _ (none : (i : ℕ) (d : Span) → i < length ws → reads (at ops n) (at ops (get_or ws i d).place) ≡ false) where
         pub seen_skip : Seen ops b (n + 1) ws
         seen_skip = record {
           ranked = seen.ranked;
@@ -83,7 +83,7 @@ module _ (ops : List Operation) (b : ℕ) where
           both_ways _ (l i h) (rank_same i d h ∙ r.same)))
 
       -- the operation reads the write of a rank
-      module _ (k : ℕ) (w : Write) (low : Lowest (length ws) (same_value ops ws n) (Some k)) (stands : w ≡ get_or ws k w) (is_read : (of_bay b (at ops n) && not (at ops n).write) ≡ true) where
+      module _ (k : ℕ) (w : Span) (low : Lowest (length ws) (same_value ops ws n) (Some k)) (stands : w ≡ get_or ws k w) (is_read : (of_bay b (at ops n) && not (at ops n).write) ≡ true) where
         ranked_here : places (set ws k (read_by w (at ops n))) ≡ places ws
         ranked_here =
             map-set (λ v. v.place) ws k (read_by w (at ops n)) ∙ ap (λ v. set (places ws) k v.place) stands
@@ -100,8 +100,8 @@ module _ (ops : List Operation) (b : ℕ) where
             right false t e = absurd (both_ways false refl e)
 
         -- each rank, from what held of it
-        module _ (P Q : Write → Type 0) (was : (i : ℕ) (d : Write) → i < length ws → P (get_or ws i d)) where
-          pub each_set : (P w → Q (read_by w (at ops n))) → ((i : ℕ) (d : Write) → i < length ws → (i ≡ k → ⊥) → P (get_or ws i d) → Q (get_or ws i d)) → (i : ℕ) (d : Write) → i < length (set ws k (read_by w (at ops n))) → Q (get_or (set ws k (read_by w (at ops n))) i d)
+        module _ (P Q : Span → Type 0) (was : (i : ℕ) (d : Span) → i < length ws → P (get_or ws i d)) where
+          pub each_set : (P w → Q (read_by w (at ops n))) → ((i : ℕ) (d : Span) → i < length ws → (i ≡ k → ⊥) → P (get_or ws i d) → Q (get_or ws i d)) → (i : ℕ) (d : Span) → i < length (set ws k (read_by w (at ops n))) → Q (get_or (set ws k (read_by w (at ops n))) i d)
           each_set changed others i d h = go (cases_eq i k)
             where
               lies : i < length ws
@@ -118,7 +118,7 @@ module _ (ops : List Operation) (b : ℕ) where
         }
 
         -- a rank of another write, where no value is written twice
-        left_other : Distinct ops (of_bay b) → (i : ℕ) (d : Write) → i < length ws → (i ≡ k → ⊥) → AsLeft ops n (get_or ws i d) → AsLeft ops (n + 1) (get_or ws i d)
+        left_other : Distinct ops (of_bay b) → (i : ℕ) (d : Span) → i < length ws → (i ≡ k → ⊥) → AsLeft ops n (get_or ws i d) → AsLeft ops (n + 1) (get_or ws i d)
         left_other dist i d h ne left =
             let v = at ops (get_or ws i d).place in
             let none : reads (at ops n) v ≡ false = fails _ (λ t.

@@ -11,7 +11,7 @@ use Rattle.bays.specs.Faults.{Lowest, faulty, written_twice}
 use Rattle.bays.specs.Writes.{passing}
 use Rattle.bays.proofs.Faulty.{twice_ranked, twice_not}
 use Rattle.bays.proofs.Passing.{passing_yes, passing_no, passing_is, passing_length, tally_rising}
-use Rattle.gathering.specs.declared.write.Write.{Write}
+use Rattle.gathering.specs.Spans.{Span}
 use Rattle.gathering.specs.Gathering.{Wrote}
 use Rattle.gathering.specs.Writes.{unread, same_value, PlacesBelow}
 use Rattle.gathering.proofs.Lows.{lowest_yes, lowest_no}
@@ -19,7 +19,7 @@ use Rattle.gathering.proofs.Lows.{lowest_yes, lowest_no}
 pub wrote_none : (ops : List Operation) (b : ℕ) → Wrote ops b 0 []
 wrote_none ops b = record { ranked = refl; few = omega arith; each = λ rank d h. absurd (omega arith) }
 
-module _ (ops : List Operation) (b n : ℕ) (ws : List Write) (so_far : Wrote ops b n ws) where
+module _ (ops : List Operation) (b n : ℕ) (ws : List Span) (so_far : Wrote ops b n ws) where
   -- each stands below n
   pub wrote_below : PlacesBelow n ws
   wrote_below i h = subst (λ l. get_or l i 0 < n) (sym so_far.ranked) (passing_is n (writes ops b) i (omega (arith, length-map ws (λ w. w.place), ap length so_far.ranked))).0
@@ -30,7 +30,7 @@ module _ (ops : List Operation) (b n : ℕ) (ws : List Write) (so_far : Wrote op
     writes_here t e = ap (λ l. l && ((at ops n).write && of_bay b (at ops n))) (lt-ltb n (length ops) within) ∙ and_comm (at ops n).write (of_bay b (at ops n)) ∙ e
 
     module _ (e : (of_bay b (at ops n) && (at ops n).write) ≡ true) where
-      pub wrote_yes : (is : List Write) → length ws < 64 → is ≡ ws ++ (unread ops n ∷ []) → Wrote ops b (n + 1) is
+      pub wrote_yes : (is : List Span) → length ws < 64 → is ≡ ws ++ (unread ops n ∷ []) → Wrote ops b (n + 1) is
       wrote_yes is h s = subst (Wrote ops b (n + 1)) (sym s) (record {
         ranked = map_push (λ w. w.place) ws (unread ops n) ∙ ap (λ l. l ++ (n ∷ [])) so_far.ranked ∙ sym (passing_yes n (writes ops b) (writes_here true e)) ∙ ap (λ k. passing k (writes ops b)) (sym (add-one n));
         few = omega (arith, length_push ws (unread ops n));

@@ -9,7 +9,7 @@ use Rattle.bays.specs.Verdicts.{has_read}
 use Rattle.bays.specs.Writes.{passing, write_places}
 use Rattle.gathering.specs.declared.bay.Bay.{Bay}
 use Rattle.gathering.specs.declared.reads.Reads.{Reads}
-use Rattle.gathering.specs.declared.write.Write.{Write}
+use Rattle.gathering.specs.Spans.{Span, spans}
 use Rattle.gathering.specs.Writes.{places, unread}
 
 -- the read of w among the first n operations that starts last starts there; there is no start where w has no read among them
@@ -31,27 +31,27 @@ noted r place (Some false) = record { any = true; unwritten = r.unwritten; fores
 
 module _ (ops : List Operation) where
   -- a write as the first n operations leave it: shortened by its reads, with the start of the last of them
-  pub record AsLeft (n : ℕ) (w : Write) : Type 0 where
+  pub record AsLeft (n : ℕ) (w : Span) : Type 0 where
     pub finish : w.finish ≡ soonest (take n ops) (at ops w.place)
     pub last : LastRead ops n (at ops w.place) w.last_read
 
   -- the writes of bay b among the first n operations, before their reads are looked at
-  pub record Wrote (b n : ℕ) (ws : List Write) : Type 0 where
+  pub record Wrote (b n : ℕ) (ws : List Span) : Type 0 where
     pub ranked : places ws ≡ passing n (writes ops b)
     pub few : length ws ≤ 64
-    pub each : (rank : ℕ) (d : Write) → rank < length ws → get_or ws rank d ≡ unread ops (get_or ws rank d).place
+    pub each : (rank : ℕ) (d : Span) → rank < length ws → get_or ws rank d ≡ unread ops (get_or ws rank d).place
 
   -- all writes of bay b, as the first n operations leave them; where a value is written twice, only their starts need be so
-  pub record Seen (b n : ℕ) (ws : List Write) : Type 0 where
+  pub record Seen (b n : ℕ) (ws : List Span) : Type 0 where
     pub ranked : places ws ≡ write_places ops b
     pub few : length ws ≤ 64
-    pub kept : (rank : ℕ) (d : Write) → rank < length ws → (get_or ws rank d).start ≡ (at ops (get_or ws rank d).place).start
-    pub each : Distinct ops (of_bay b) → (rank : ℕ) (d : Write) → rank < length ws → AsLeft n (get_or ws rank d)
+    pub kept : (rank : ℕ) (d : Span) → rank < length ws → (get_or ws rank d).start ≡ (at ops (get_or ws rank d).place).start
+    pub each : Distinct ops (of_bay b) → (rank : ℕ) (d : Span) → rank < length ws → AsLeft n (get_or ws rank d)
 
   -- What is gathered of bay b: its writes by rank, at most 64, as its reads leave them; whether it has a read; and the lowest place
   -- of each fault.
   pub record Gathered (b : ℕ) (bay : Bay) : Type 0 where
-    pub writes : Seen b (length ops) (listed bay.writes)
+    pub writes : Seen b (length ops) (spans (listed bay.writes))
     pub read : bay.read ≡ has_read ops b
     pub once : Lowest (length ops) (faulty (of_bay b) written_twice ops) bay.faults.written_twice
     pub sourced : Lowest (length ops) (faulty (of_bay b) unwritten ops) bay.faults.unwritten

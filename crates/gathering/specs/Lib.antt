@@ -1,3 +1,4 @@
+pub mod Spans
 pub mod Faults
 pub mod Writes
 pub mod Gathering

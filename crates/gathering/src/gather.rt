@@ -4,6 +4,7 @@ ghost use Rattle.bays.specs.Faults.{Lowest, faulty, written_twice};
 ghost use Rattle.lists.specs.Lists.{listed};
 ghost use Rattle.orders.specs.Orders.{of_bay, write_count};
 ghost use Rattle.relations.specs.Meanings.{told};
+ghost use Rattle.gathering.specs.Spans.{spans};
 ghost use Rattle.gathering.specs.Gathering.{ReadsUpTo, noted, Wrote, Seen, Gathered};
 
 use crate::bay::Bay;
@@ -45,7 +46,7 @@ fn gather_writes<V: Kind>(
 ) -> Result<Option<usize>, TooManyWrites>
     requires { listed writes.old ≡ [] }
     ensures { MatchResult result
-        (λ twice. Wrote (told V.Kind.meaning rows.now) number (length rows.now) (listed writes.new)
+        (λ twice. Wrote (told V.Kind.meaning rows.now) number (length rows.now) (spans (listed writes.new))
         × Lowest (length rows.now) (faulty (of_bay number) written_twice (told V.Kind.meaning rows.now)) twice)
         (λ _. 64 < write_count (told V.Kind.meaning rows.now) number) }
 {
@@ -66,8 +67,8 @@ fn gather_reads<V: Kind>(
     number: u8,
     writes: &mut ArrayList<Write, MOST_WRITES>,
 ) -> Reads
-    requires { Seen (told V.Kind.meaning rows.now) number 0 (listed writes.old) }
-    ensures { Seen (told V.Kind.meaning rows.now) number (length rows.now) (listed writes.new)
+    requires { Seen (told V.Kind.meaning rows.now) number 0 (spans (listed writes.old)) }
+    ensures { Seen (told V.Kind.meaning rows.now) number (length rows.now) (spans (listed writes.new))
         × ReadsUpTo (told V.Kind.meaning rows.now) number (length rows.now) result }
 {
     let mut reads = Reads::default();

@@ -4,41 +4,44 @@ ghost use Rattle.orders.specs.Orders.{at};
 ghost use Rattle.bays.specs.Faults.{Lowest};
 ghost use Rattle.lists.specs.Lists.{listed};
 ghost use Rattle.relations.specs.Meanings.{meant, told};
+ghost use Rattle.gathering.specs.Spans.{started, span, spans};
 ghost use Rattle.gathering.specs.Writes.{same_value, later, read_by, PlacesBelow, WriteAdded, ReadAdded};
 
 use crate::faults::TooManyWrites;
 use crate::write::{MOST_WRITES, Write};
 use lists::ArrayList;
 use operations::row::Row;
-use relations::alike;
+use relations::{alike, before};
 use values::kind::Kind;
 
 impl Write {
     // The write as one more read leaves it.
     fn read_by<V: Kind>(self, read: &Row<V>) -> Write
-        ensures { result ≡ read_by self (meant V.Kind.meaning read.now) }
+        ensures { span result ≡ read_by (span self) (meant V.Kind.meaning read.now) }
     {
+        let read = read.without_value();
         Write {
-            finish: read.finish.min(self.finish),
-            last_read: Some(later(self.last_read, read.start)),
+            row: self.row.finished_at(read.finish.min(self.row.finish)),
+            last_read: Some(later(self.last_read, read)),
             ..self
         }
     }
 }
 
-fn later(held: Option<u32>, start: u32) -> u32
-    ensures { result ≡ later held start }
+// Of a read and one that may be held, the one that starts later.
+fn later(held: Option<Row<()>>, read: Row<()>) -> Row<()>
+    ensures { result.start ≡ later (started held) read.start }
 {
     match held {
-        Some(last) if start <= last => last,
-        _ => start,
+        Some(last) if read.start <= last.start => last,
+        _ => read,
     }
 }
 
 // The lowest rank of a write of the bay and value of the row at a place.
 fn rank_of<V: Kind>(rows: &[Row<V>], writes: &[Write], place: usize) -> Option<usize>
-    requires { (PlacesBelow (length rows.now) writes.now) × (place < length rows.now) }
-    ensures { Lowest (length writes.now) (same_value (told V.Kind.meaning rows.now) writes.now place) result }
+    requires { (PlacesBelow (length rows.now) (spans writes.now)) × (place < length rows.now) }
+    ensures { Lowest (length writes.now) (same_value (told V.Kind.meaning rows.now) (spans writes.now) place) result }
 {
     for (rank, write) in writes.iter().enumerate() {
         if alike(&rows[write.place], &rows[place]) {
@@ -54,15 +57,13 @@ pub(crate) fn add_write<V: Kind>(
     writes: &mut ArrayList<Write, MOST_WRITES>,
     place: usize,
 ) -> Result<bool, TooManyWrites>
-    requires { (PlacesBelow (length rows.now) (listed writes.old)) × (place < length rows.now) }
-    ensures { WriteAdded (told V.Kind.meaning rows.now) (listed writes.old) place (listed writes.new) result }
+    requires { (PlacesBelow (length rows.now) (spans (listed writes.old))) × (place < length rows.now) }
+    ensures { WriteAdded (told V.Kind.meaning rows.now) (spans (listed writes.old)) place (spans (listed writes.new)) result }
 {
     let twice = rank_of(rows, writes.as_slice(), place).is_some();
-    let row = &rows[place];
     let write = Write {
         place,
-        start: row.start,
-        finish: row.finish,
+        row: rows[place].without_value(),
         last_read: None,
     };
     writes.push(write).map_err(|_| TooManyWrites)?;
@@ -75,13 +76,13 @@ pub(crate) fn add_read<V: Kind>(
     writes: &mut ArrayList<Write, MOST_WRITES>,
     place: usize,
 ) -> Option<bool>
-    requires { (PlacesBelow (length rows.now) (listed writes.old)) × (place < length rows.now) }
-    ensures { ReadAdded (told V.Kind.meaning rows.now) (listed writes.old) place (listed writes.new) result }
+    requires { (PlacesBelow (length rows.now) (spans (listed writes.old))) × (place < length rows.now) }
+    ensures { ReadAdded (told V.Kind.meaning rows.now) (spans (listed writes.old)) place (spans (listed writes.new)) result }
 {
     let rank = rank_of(rows, writes.as_slice(), place)?;
     let read = &rows[place];
     let write = writes.as_slice()[rank];
-    let foreseen = read.finish < write.start;
+    let foreseen = before(read, &write.row);
     let Ok(()) = writes.set(rank, write.read_by(read)) else {
         unreachable()
     };

@@ -1,6 +1,6 @@
-// A row with another finish.
+// Rows made of rows.
 ghost use Rattle.std.specs.Prelude.{◌≡◌};
-ghost use Rattle.operations.specs.Rows.{finished_at};
+ghost use Rattle.operations.specs.Rows.{finished_at, without_value};
 
 use crate::row::Row;
 
@@ -10,5 +10,19 @@ impl<V: Copy> Row<V> {
         ensures { result ≡ finished_at self finish }
     {
         Row { finish, ..self }
+    }
+
+    // The same row without its value. So it has one size for every kind of value.
+    pub fn without_value(&self) -> Row<()>
+        ensures { result ≡ without_value self.now }
+    {
+        Row {
+            sort: self.sort,
+            bay: self.bay,
+            cabinet: self.cabinet,
+            value: (),
+            start: self.start,
+            finish: self.finish,
+        }
     }
 }

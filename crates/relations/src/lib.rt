@@ -1,7 +1,7 @@
 // What a row is to a bay, and what two rows are to one another.
 #![tactic(auto)]
 
-ghost use Rattle.std.specs.Prelude.{◌≡◌, not, ◌&&◌, ◌==◌};
+ghost use Rattle.std.specs.Prelude.{ℕ, nat_lt, ◌≡◌, not, ◌&&◌, ◌==◌};
 ghost use Rattle.orders.specs.Orders.{before, alike};
 ghost use Rattle.relations.specs.Meanings.{writing, meant};
 
@@ -9,8 +9,10 @@ use operations::row::{Row, Sort};
 use values::kind::Kind;
 
 // Whether the first ends before the other starts; those that touch are concurrent.
-pub fn before<V: Kind>(first: &Row<V>, other: &Row<V>) -> bool
-    ensures { result ≡ before (meant V.Kind.meaning first.now) (meant V.Kind.meaning other.now) }
+// Values have no part in it.
+pub fn before<V: Copy, W: Copy>(first: &Row<V>, other: &Row<W>) -> bool
+    ensures ticks { result ≡ nat_lt first.now.finish other.now.start }
+    ensures meant { (m : V → ℕ × ℕ) (n : W → ℕ × ℕ) → result ≡ before (meant m first.now) (meant n other.now) }
 {
     first.finish < other.start
 }

@@ -7,13 +7,13 @@ use Rattle.orders.specs.Places.{some}
 use Rattle.orders.proofs.Counts.{some_is, is_some}
 use Rattle.bays.specs.Writes.{write_places}
 use Rattle.bays.proofs.Ranks.{places_apart}
-use Rattle.gathering.specs.declared.write.Write.{Write}
+use Rattle.gathering.specs.Spans.{Span}
 use Rattle.gathering.specs.Gathering.{LastRead, AsLeft, Seen}
 use Rattle.trying.specs.Edges.{before_last, is_into, is_from}
 use Rattle.trying.proofs.Masked.{finish_at, last_at}
 
 -- each rank has a write
-pub ranked : (ws : List Write) (i : ℕ) → i < length ws → (w : Write) × (w ≡ get_or ws i w)
+pub ranked : (ws : List Span) (i : ℕ) → i < length ws → (w : Span) × (w ≡ get_or ws i w)
 ranked [] i h = absurd (omega arith)
 ranked (w ∷ ws) zero h = (w, refl)
 ranked (w ∷ ws) (suc i) h = ranked ws i (omega arith)
@@ -40,13 +40,13 @@ some_read ops o w last l = go (some (length ops) test) refl last l
         no false f = e ∙ sym f
     go false e None l = e
 
-module _ (ops : List Operation) (b : ℕ) (ws : List Write) (seen : Seen ops b (length ops) ws) where
+module _ (ops : List Operation) (b : ℕ) (ws : List Span) (seen : Seen ops b (length ops) ws) where
   pub count : length ws ≡ length (write_places ops b)
   count = sym (length-map ws (λ w. w.place)) ∙ ap length seen.ranked
 
   module _ (dist : Distinct ops (of_bay b)) where
     -- the write of a rank is the one at its place, shortened
-    module _ (i : ℕ) (w : Write) (h : i < length ws) (stands : w ≡ get_or ws i w) where
+    module _ (i : ℕ) (w : Span) (h : i < length ws) (stands : w ≡ get_or ws i w) where
       left : AsLeft ops (length ops) w
       left = subst (AsLeft ops (length ops)) (sym stands) (seen.each dist i w h)
 
@@ -62,7 +62,7 @@ module _ (ops : List Operation) (b : ℕ) (ws : List Write) (seen : Seen ops b (
       last_is : LastRead ops (length ops) (at ops (get_or (write_places ops b) i 0)) w.last_read
       last_is = subst (λ p. LastRead ops (length ops) (at ops p) w.last_read) place_is left.last
 
-    module _ (i j : ℕ) (v w : Write) (h : i < length ws) (k : j < length ws) (is-i : v ≡ get_or ws i v) (is-j : w ≡ get_or ws j w) where
+    module _ (i j : ℕ) (v w : Span) (h : i < length ws) (k : j < length ws) (is-i : v ≡ get_or ws i v) (is-j : w ≡ get_or ws j w) where
       pub into_is : is_into ws w i ≡ write_edge ops (get_or (write_places ops b) i 0) (get_or (write_places ops b) j 0)
       into_is = ap₂ ltb (finish_at ws i v h ∙ ap (λ x. x.finish) (sym is-i) ∙ finish_is i v h is-i) (start_is j w k is-j)
 

@@ -11,7 +11,7 @@ use Rattle.bays.specs.Writes.{write_places}
 use Rattle.bays.proofs.Ages.{overrun, some_order}
 use Rattle.bays.proofs.Ranks.{places_count, places_rising, place_writes, write_listed}
 use Rattle.gathering.specs.declared.bay.Bay.{Bay}
-use Rattle.gathering.specs.declared.write.Write.{Write}
+use Rattle.gathering.specs.Spans.{Span, spans}
 use Rattle.gathering.specs.Gathering.{Seen, Gathered}
 use Rattle.gathering.specs.Writes.{places}
 use Rattle.searching.specs.Masks.{mask_graph}
@@ -28,13 +28,13 @@ use Rattle.trying.proofs.Edged.{ranked, count, into_is, from_is}
 use Rattle.trying.proofs.Masked.{bits_at}
 
 -- ranks that the search found are ranks
-pub ranks_found : (ws : List Write) (limit : ℕ) (f : FirstOrder) → length ws ≤ 64 → RanksSearched ws limit (Ok f) → RanksUpTo (length ws) f.writes
+pub ranks_found : (ws : List Span) (limit : ℕ) (f : FirstOrder) → length ws ≤ 64 → RanksSearched ws limit (Ok f) → RanksUpTo (length ws) f.writes
 ranks_found ws limit f few s = go (length s.edges) s.all s.searched
   where
     go : (n : ℕ) → n ≡ length ws → Found (mask_graph n (befores s.edges) (behinds s.edges)) n limit f → RanksUpTo (length ws) f.writes
     go n e found = subst (λ k. RanksUpTo k f.writes) e (entry_below (mask_graph n (befores s.edges) (behinds s.edges)) n f.age (λ p. refl) f.writes found.0.first.order)
 
-module _ (ops : List Operation) (b : ℕ) (ws : List Write) (seen : Seen ops b (length ops) ws) (dist : Distinct ops (of_bay b)) (limit : ℕ) (r : Result FirstOrder NotFound) (s : RanksSearched ws limit r) where
+module _ (ops : List Operation) (b : ℕ) (ws : List Span) (seen : Seen ops b (length ops) ws) (dist : Distinct ops (of_bay b)) (limit : ℕ) (r : Result FirstOrder NotFound) (s : RanksSearched ws limit r) where
   -- no edges
   none : EdgeMasks
   none = record { before = 0; behind = 0 }
@@ -62,43 +62,43 @@ module _ (ops : List Operation) (b : ℕ) (ws : List Write) (seen : Seen ops b (
 
 -- so the search over the masks is one over the writes of the bay
 module _ (ops : List Operation) (b : ℕ) (bay : Bay) (gathered : Gathered ops b bay) (limit : ℕ) where
-  number : length (listed bay.writes) ≡ write_count ops b
-  number = count ops b (listed bay.writes) gathered.writes ∙ places_count ops b
+  number : length (spans (listed bay.writes)) ≡ write_count ops b
+  number = count ops b (spans (listed bay.writes)) gathered.writes ∙ places_count ops b
 
   -- a bay without a write
-  pub judged_idle : length (listed bay.writes) ≡ 0 → (order : List ℕ) → order ≡ [] → BayJudged ops b 0 0 order × (0 ≤ limit) × (length order ≡ write_count ops b)
+  pub judged_idle : length (spans (listed bay.writes)) ≡ 0 → (order : List ℕ) → order ≡ [] → BayJudged ops b 0 0 order × (0 ≤ limit) × (length order ≡ write_count ops b)
   judged_idle e order empty =
       let none = sym number ∙ e in
       (idle none refl refl empty, omega arith, ap length empty ∙ sym none)
 
   module _ (ready : Judgeable ops (of_bay b)) where
     -- the order that is found of one with a write
-    pub judged_found : (f : FirstOrder) (order : List ℕ) (age : ℕ) → 0 < length (listed bay.writes) → RanksSearched (listed bay.writes) limit (Ok f) → order ≡ placed (places (listed bay.writes)) (take (length (listed bay.writes)) f.writes) → length order ≡ length (listed bay.writes) → age ≡ cond bay.read f.age 0 → BayJudged ops b age f.trials order × (f.trials ≤ limit) × (length order ≡ write_count ops b)
+    pub judged_found : (f : FirstOrder) (order : List ℕ) (age : ℕ) → 0 < length (spans (listed bay.writes)) → RanksSearched (spans (listed bay.writes)) limit (Ok f) → order ≡ placed (places (spans (listed bay.writes))) (take (length (spans (listed bay.writes))) f.writes) → length order ≡ length (spans (listed bay.writes)) → age ≡ cond bay.read f.age 0 → BayJudged ops b age f.trials order × (f.trials ≤ limit) × (length order ≡ write_count ops b)
     judged_found f order age some s same all aged =
         go (length s.edges) s.all s.searched
       where
-        go : (n : ℕ) → n ≡ length (listed bay.writes) → Found (mask_graph n (befores s.edges) (behinds s.edges)) n limit f → BayJudged ops b age f.trials order × (f.trials ≤ limit) × (length order ≡ write_count ops b)
+        go : (n : ℕ) → n ≡ length (spans (listed bay.writes)) → Found (mask_graph n (befores s.edges) (behinds s.edges)) n limit f → BayJudged ops b age f.trials order × (f.trials ≤ limit) × (length order ≡ write_count ops b)
         go n e found =
-            let x = renamed ops b (listed bay.writes) gathered.writes ready.distinct limit (Ok f) s n e in
+            let x = renamed ops b (spans (listed bay.writes)) gathered.writes ready.distinct limit (Ok f) s n e in
             let t = tried_renamed x f.age f.trials (take n f.writes) found.0 in (
               tried f.age (omega (arith, number))
-                  (subst (Tried (bay_graph ops b) f.age f.trials) (sym (same ∙ ap (λ l. placed l (take (length (listed bay.writes)) f.writes)) gathered.writes.ranked)) (subst (λ k. Tried (bay_graph ops b) f.age f.trials (placed (write_places ops b) (take k f.writes))) e t))
+                  (subst (Tried (bay_graph ops b) f.age f.trials) (sym (same ∙ ap (λ l. placed l (take (length (spans (listed bay.writes))) f.writes)) gathered.writes.ranked)) (subst (λ k. Tried (bay_graph ops b) f.age f.trials (placed (write_places ops b) (take k f.writes))) e t))
                   (aged ∙ ap (λ c. cond c f.age 0) gathered.read),
               found.1,
               all ∙ number,
             )
 
     -- and none is found because its trials pass the limit
-    pub judged_missed : 0 < length (listed bay.writes) → (e : NotFound) → RanksSearched (listed bay.writes) limit (Err e) → Overrun ops b limit
+    pub judged_missed : 0 < length (spans (listed bay.writes)) → (e : NotFound) → RanksSearched (spans (listed bay.writes)) limit (Err e) → Overrun ops b limit
     judged_missed some why s = go (length s.edges) s.all why refl s.searched
       where
         first : ℕ
         first = get_or (write_places ops b) 0 0
 
-        go : (n : ℕ) → n ≡ length (listed bay.writes) → (e : NotFound) → why ≡ e → Missed (mask_graph n (befores s.edges) (behinds s.edges)) n limit e → Overrun ops b limit
+        go : (n : ℕ) → n ≡ length (spans (listed bay.writes)) → (e : NotFound) → why ≡ e → Missed (mask_graph n (befores s.edges) (behinds s.edges)) n limit e → Overrun ops b limit
         go n e OverLimit q missed =
-            let x = renamed ops b (listed bay.writes) gathered.writes ready.distinct limit (Err why) s n e in
+            let x = renamed ops b (spans (listed bay.writes)) gathered.writes ready.distinct limit (Err why) s n e in
             overrun ops b ready first (place_writes ops b 0 (omega (arith, number, places_count ops b))) missed.0 missed.1 limit (none_below_renamed x missed.0 missed.4) (trials_up_to_renamed x missed.0 missed.1 missed.5) missed.6
         go n e NoOrder q missed =
-            let x = renamed ops b (listed bay.writes) gathered.writes ready.distinct limit (Err why) s n e in
+            let x = renamed ops b (spans (listed bay.writes)) gathered.writes ready.distinct limit (Err why) s n e in
             absurd (some_order ops b ready first (place_writes ops b 0 (omega (arith, number, places_count ops b))) (λ k h. none_renamed x k (missed k h)))

@@ -1,7 +1,7 @@
 -- The edges between the gathered writes of a bay, by rank. Assumes nothing.
 use Rattle.std.specs.Prelude.{◌≡◌, ℕ, ◌<◌, Bool, false, not, ◌&&◌, List, map, length, Some, None, Option, ◌==◌, nat_lt, slice_index, slice_index_or}
 use Rattle.masks.specs.Masks.{has_bit}
-use Rattle.gathering.specs.declared.write.Write.{Write}
+use Rattle.gathering.specs.Spans.{Span}
 use Rattle.searching.specs.declared.edges.EdgeMasks.{EdgeMasks}
 
 -- the mask has exactly those below n that pass the test
@@ -14,25 +14,25 @@ before_last finish (Some start) = nat_lt finish start
 before_last finish None = false
 
 -- the finishes that their reads leave the writes
-abbrev pub finishes : List Write → List ℕ
+abbrev pub finishes : List Span → List ℕ
 finishes ws = map (λ w. w.finish) ws
 
 -- the starts of the last reads of the writes
-abbrev pub last_reads : List Write → List (Option ℕ)
+abbrev pub last_reads : List Span → List (Option ℕ)
 last_reads ws = map (λ w. w.last_read) ws
 
 -- the write of rank u, shortened, is before the write v
-abbrev pub is_into : List Write → Write → ℕ → Bool
+abbrev pub is_into : List Span → Span → ℕ → Bool
 is_into ws v u = nat_lt (slice_index (finishes ws) u) v.start
 
 -- the write u, shortened, of this rank is before the last read of the write of another rank v
-abbrev pub is_from : List Write → ℕ → Write → ℕ → Bool
+abbrev pub is_from : List Span → ℕ → Span → ℕ → Bool
 is_from ws from u v = not (v == from) && before_last u.finish (slice_index_or (last_reads ws) v None)
 
 -- the write of a rank has these edges: the writes with a write edge into it, and those that it has a read edge to
-abbrev pub EdgesAt : List Write → ℕ → EdgeMasks → Type 0
-EdgesAt ws rank masks = (w : Write) → w ≡ slice_index_or ws rank w → Bits (length ws) (is_into ws w) masks.before × Bits (length ws) (is_from ws rank w) masks.behind
+abbrev pub EdgesAt : List Span → ℕ → EdgeMasks → Type 0
+EdgesAt ws rank masks = (w : Span) → w ≡ slice_index_or ws rank w → Bits (length ws) (is_into ws w) masks.before × Bits (length ws) (is_from ws rank w) masks.behind
 
 -- those of the first writes, by rank
-abbrev pub EdgesOf : List Write → List EdgeMasks → Type 0
+abbrev pub EdgesOf : List Span → List EdgeMasks → Type 0
 EdgesOf ws edges = (rank : ℕ) (d : EdgeMasks) → rank < length edges → EdgesAt ws rank (slice_index_or edges rank d)

@@ -1,7 +1,7 @@
 -- What trying the orders of one bay answers. Assumes nothing.
 use Rattle.std.specs.Prelude.{◌≡◌, ℕ, ◌<◌, ◌≤◌, List, map, length, Ok, Err, Result, slice_index}
 use Rattle.bays.specs.Verdicts.{BayJudged, Overrun}
-use Rattle.gathering.specs.declared.write.Write.{Write}
+use Rattle.gathering.specs.Spans.{Span}
 use Rattle.lists.specs.Lists.{listed}
 use Rattle.orders.specs.Orders.{Operation, write_count}
 use Rattle.searching.specs.Outcome.{Searched}
@@ -20,7 +20,7 @@ abbrev pub RanksUpTo : ℕ → List ℕ → Type 0
 RanksUpTo n ranks = (i : ℕ) → i < n → slice_index ranks i < n
 
 -- the search over the edges at each of the writes
-pub record RanksSearched (ws : List Write) (limit : ℕ) (r : Result FirstOrder NotFound) : Type 0 where
+pub record RanksSearched (ws : List Span) (limit : ℕ) (r : Result FirstOrder NotFound) : Type 0 where
   pub edges : List EdgeMasks
   pub all : length edges ≡ length ws
   pub at_ranks : EdgesOf ws edges

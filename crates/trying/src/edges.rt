@@ -1,36 +1,39 @@
 // The edges between the writes of a bay, as masks of ranks.
 ghost use Rattle.std.specs.Prelude.{◌≡◌, ◌≤◌, not, ◌&&◌, length, ◌==◌};
 ghost use Rattle.lists.specs.Lists.{listed};
+ghost use Rattle.gathering.specs.Spans.{started, span, spans};
 ghost use Rattle.trying.specs.Edges.{Bits, before_last, is_into, is_from, EdgesOf};
 
 use gathering::bay::Bay;
 use gathering::write::{MOST_WRITES, Write};
 use lists::ArrayList;
 use masks::with_bit;
+use operations::row::Row;
+use relations::before;
 use searching::edges::EdgeMasks;
 
 // Whether a write, shortened, is before the last read of another; then it is before some read of it.
-fn before_last(finish: u32, last: Option<u32>) -> bool
-    ensures { result ≡ before_last finish last }
+fn before_last(row: &Row<()>, last: Option<Row<()>>) -> bool
+    ensures { result ≡ before_last row.now.finish (started last) }
 {
-    last.is_some_and(|start| finish < start)
+    last.is_some_and(|read| before(row, &read))
 }
 
 // Whether the write of one rank has a read edge to that of another.
 fn read_edge(from: usize, write: &Write, into: usize, other: &Write) -> bool
-    ensures { result ≡ (not (into == from) && before_last write.now.finish other.now.last_read) }
+    ensures { result ≡ (not (into == from) && before_last write.now.row.finish (started other.now.last_read)) }
 {
-    into != from && before_last(write.finish, other.last_read)
+    into != from && before_last(&write.row, other.last_read)
 }
 
 // The writes with a write edge into this one: those that are, shortened, before it.
 fn edges_into(writes: &[Write], into: &Write) -> u64
     requires { length writes.now ≤ 64 }
-    ensures { Bits (length writes.now) (is_into writes.now into.now) result }
+    ensures { Bits (length writes.now) (is_into (spans writes.now) (span into.now)) result }
 {
     let mut mask = 0;
     for (rank, write) in writes.iter().enumerate() {
-        if write.finish < into.start {
+        if before(&write.row, &into.row) {
             mask = with_bit(mask, rank as u32);
         }
     }
@@ -40,7 +43,7 @@ fn edges_into(writes: &[Write], into: &Write) -> u64
 // The writes that the write of a rank has a read edge to: the others with a read that it is, shortened, before.
 fn edges_from(writes: &[Write], from: usize, write: &Write) -> u64
     requires { length writes.now ≤ 64 }
-    ensures { Bits (length writes.now) (is_from writes.now from write.now) result }
+    ensures { Bits (length writes.now) (is_from (spans writes.now) from (span write.now)) result }
 {
     let mut mask = 0;
     for (rank, other) in writes.iter().enumerate() {
@@ -53,7 +56,7 @@ fn edges_from(writes: &[Write], from: usize, write: &Write) -> u64
 
 // The edges at each write of a bay, by rank.
 pub(crate) fn edges_between(bay: &Bay) -> ArrayList<EdgeMasks, MOST_WRITES>
-    ensures edges { EdgesOf (listed bay.now.writes) (listed result) }
+    ensures edges { EdgesOf (spans (listed bay.now.writes)) (listed result) }
     ensures all { length (listed result) ≡ length (listed bay.now.writes) }
 {
     let writes = bay.writes.as_slice();

@@ -3,6 +3,7 @@ ghost use Rattle.std.specs.Prelude.{◌≡◌, ℕ, ◌≤◌, List, length, tak
 ghost use Rattle.orders.specs.Claims.{Judgeable};
 ghost use Rattle.orders.specs.Orders.{Operation, of_bay};
 ghost use Rattle.gathering.specs.Gathering.{Gathered};
+ghost use Rattle.gathering.specs.Spans.{spans};
 ghost use Rattle.gathering.specs.Writes.{places};
 ghost use Rattle.lists.specs.Lists.{listed};
 ghost use Rattle.trying.specs.Trying.{placed, RanksUpTo, RanksSearched, JudgedWithin};
@@ -36,7 +37,7 @@ pub fn judge_bay(bay: &Bay, limit: u32) -> Result<BayOrder, NotFound>
 
 // The search over the edges between the writes.
 fn search(bay: &Bay, limit: u32) -> Result<FirstOrder, NotFound>
-    ensures { RanksSearched (listed bay.now.writes) limit result }
+    ensures { RanksSearched (spans (listed bay.now.writes)) limit result }
 {
     let found = edges_between(bay);
     let edges = Edges {
@@ -48,7 +49,7 @@ fn search(bay: &Bay, limit: u32) -> Result<FirstOrder, NotFound>
 // The places of ranks.
 fn placed(writes: &[Write], ranks: &[u8; 64]) -> ArrayList<usize, MOST_WRITES>
     requires { (length writes.now ≤ 64) × (RanksUpTo (length writes.now) ranks.now) }
-    ensures order { listed result ≡ placed (places writes.now) (take (length writes.now) ranks.now) }
+    ensures order { listed result ≡ placed (places (spans writes.now)) (take (length writes.now) ranks.now) }
     ensures all { length (listed result) ≡ length writes.now }
 {
     let mut places = ArrayList::new();

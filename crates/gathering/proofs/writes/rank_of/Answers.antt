@@ -1,23 +1,24 @@
 use Rattle.std.proofs.Common.{None, sym, ◌∙◌, arith, below_more}
+use Rattle.operations.specs.declared.row.Sort.TheVariants.{Read}
 use Rattle.gathering.specs.declared.write.Write.{Write}
-use Rattle.gathering.proofs.Ranked.{rank_below, same_is}
+use Rattle.gathering.proofs.Ranked.{write_below, same_write}
 use Rattle.gathering.proofs.writes.rank_of.Goals as goal
 
 abbrev blank : Write
-blank = record { place = 0; start = 0; finish = 0; last_read = None }
+blank = record { place = 0; row = record { sort = Read; bay = 0; cabinet = 0; value = tt; start = 0; finish = 0 }; last_read = None }
 
 pub bounds-rows-write : goal.bounds-rows-write
-bounds-rows-write g c = rank_below g.V.Kind.meaning c.args.rows.now c.args.writes.now c.requires.0 c.loop-rank.rank blank c.loop-rank-test.true
+bounds-rows-write g c = write_below g.V.Kind.meaning c.args.rows.now c.args.writes.now c.requires.0 c.loop-rank.rank blank c.loop-rank-test.true
 
 pub offset_bounds-rows-write : goal.offset_bounds-rows-write
-offset_bounds-rows-write g c = omega (arith, rank_below g.V.Kind.meaning c.args.rows.now c.args.writes.now c.requires.0 c.loop-rank.rank blank c.loop-rank-test.true)
+offset_bounds-rows-write g c = omega (arith, write_below g.V.Kind.meaning c.args.rows.now c.args.writes.now c.requires.0 c.loop-rank.rank blank c.loop-rank-test.true)
 
 pub returns-then-alike : goal.returns-then-alike
 returns-then-alike g c =
-    let same = same_is g.V.Kind.meaning c.args.rows.now c.args.writes.now c.requires.0 c.loop-rank.rank blank c.loop-rank-test.true c.args.place c.requires.1 c.index-rows-write.result c.index-rows-place.result c.index-rows-write.is c.index-rows-place.is in
+    let same = same_write g.V.Kind.meaning c.args.rows.now c.args.writes.now c.requires.0 c.loop-rank.rank blank c.loop-rank-test.true c.args.place c.requires.1 c.index-rows-write.result c.index-rows-place.result c.index-rows-write.is c.index-rows-place.is in
     (c.loop-rank-test.true, same ∙ sym c.alike.ensures ∙ c.if-alike.true, c.loop-rank.invariant)
 
 pub loop-rank-preserved : goal.loop-rank-preserved
 loop-rank-preserved g c =
-    let same = same_is g.V.Kind.meaning c.args.rows.now c.args.writes.now c.requires.0 c.loop-rank.rank blank c.loop-rank-test.true c.args.place c.requires.1 c.index-rows-write.result c.index-rows-place.result c.index-rows-write.is c.index-rows-place.is in
+    let same = same_write g.V.Kind.meaning c.args.rows.now c.args.writes.now c.requires.0 c.loop-rank.rank blank c.loop-rank-test.true c.args.place c.requires.1 c.index-rows-write.result c.index-rows-place.result c.index-rows-write.is c.index-rows-place.is in
     below_more _ _ c.loop-rank.invariant (same ∙ sym c.alike.ensures ∙ c.if-alike.false)

@@ -6,6 +6,7 @@ use Rattle.orders.specs.Orders.{at, of_bay}
 use Rattle.orders.specs.Places.{some}
 use Rattle.relations.specs.Meanings.{told}
 use Rattle.relations.proofs.Told.{told_length}
+use Rattle.gathering.specs.Spans.{spans}
 use Rattle.gathering.specs.Gathering.{Wrote, Seen}
 use Rattle.gathering.proofs.Seen.{seen_none}
 use Rattle.gathering.proofs.bay.Bay.gather.Goals as goal
@@ -15,7 +16,7 @@ gather_reads-reads-requires g c =
     let m = g.V.Kind.meaning in
     let rows = c.args.rows.now in
     let wrote = c.in_ok-written_twice.ensures.0 in
-    seen_none (told m rows) c.args.number (listed c.gather_writes.new.writes) (subst (λ n. Wrote (told m rows) c.args.number n (listed c.gather_writes.new.writes)) (sym (told_length m rows)) wrote)
+    seen_none (told m rows) c.args.number (spans (listed c.gather_writes.new.writes)) (subst (λ n. Wrote (told m rows) c.args.number n (spans (listed c.gather_writes.new.writes))) (sym (told_length m rows)) wrote)
 
 pub returns : goal.returns
 returns g c =
@@ -26,7 +27,7 @@ returns g c =
     let found = c.gather_reads-reads.ensures.1 in
     let same = sym (told_length m rows) in
     record {
-      writes = subst (λ n. Seen ops b n (listed c.gather_reads-reads.new.writes)) same c.gather_reads-reads.ensures.0;
+      writes = subst (λ n. Seen ops b n (spans (listed c.gather_reads-reads.new.writes))) same c.gather_reads-reads.ensures.0;
       read = found.any ∙ ap (λ n. some n (λ p. of_bay b (at ops p) && not (at ops p).write)) same;
       once = subst (λ n. Lowest n (faulty (of_bay b) written_twice ops) c.in_ok-written_twice.written_twice) same c.in_ok-written_twice.ensures.1;
       sourced = subst (λ n. Lowest n (faulty (of_bay b) unwritten ops) c.gather_reads-reads.result.unwritten) same found.lacking;
