@@ -1,3 +1,4 @@
+pub mod Names
 pub mod Cabinets
 pub mod States
 pub mod Steps
