@@ -13,3 +13,4 @@ pub mod ticket;
 pub mod ticket_name;
 pub mod view;
 pub mod views;
+pub mod words;
