@@ -8,8 +8,7 @@ use Rattle.lives.proofs.Law.{lives_lawful}
 use Rattle.logs.specs.Stands.{Leads}
 use Rattle.logs.specs.States.{State, opened_at}
 use Rattle.replaying.specs.Runs.{possible, Goes, Steps, Reached, Ran, Transcript}
-use Rattle.replaying.specs.Scripts.{meant, answer_of}
-use Rattle.replaying.specs.declared.answer.Answer.{Answer}
+use Rattle.replaying.specs.Scripts.{Answer, meant, answer_of}
 use Rattle.replaying.specs.declared.call.Call.{Call}
 
 -- a life that just started has no survey yet, so it is one under every rule
