@@ -1,17 +1,13 @@
 -- What cabinets and rows hold after one of them is written. Assumes nothing.
-use Rattle.std.proofs.Common.{◌≡◌, ℕ, zero, suc, ◌+◌, ◌-◌, ◌<◌, ◌≤◌, true, false, ◌≢◌, ◌⊎◌, List, [], ◌∷◌, ◌++◌, length, get_or, take, set, replicate, sym, refl, ap, ◌∙◌, subst, inl, inr, ⊎_elim, arith, length-set, length-take, get_or-set_other, get_or-take, get_or-set_same}
-use lib.ListN.{get_or-eq_default}
-use Rattle.std.proofs.lemmas.List.{take_more_set}
-use Rattle.std.proofs.lemmas.Bool.{false≢true, cases_lt}
+use Rattle.std.proofs.Common.{◌≡◌, ℕ, zero, suc, ◌+◌, ◌-◌, ◌<◌, ◌≤◌, true, ◌⊎◌, List, [], ◌∷◌, length, get_or, set, replicate, refl, ap, ◌∙◌, inl, inr, ⊎_elim, arith}
+use Rattle.std.proofs.lemmas.Bool.{false≢true}
 use Rattle.std.proofs.lemmas.Bool.Decides.{nat_tests}
-use Rattle.operations.specs.Rows.{Valid, AllValid}
 use Rattle.operations.specs.declared.row.Row.{Row}
 use Rattle.operations.specs.declared.row.Sort.{Sort}
 use Rattle.operations.specs.declared.row.Sort.TheVariants.{Read, Write}
 use Rattle.logs.specs.declared.cabinet.Cabinet.{Cabinet}
 use Rattle.logs.specs.declared.cabinet.Cabinet.TheVariants.{Idle, Reading, Writing}
 use Rattle.logs.specs.Cabinets.{occupied, holds, bay_of, begun_of, waits, busy, AllHeld, Found, ValidUpTo}
-use Rattle.logs.specs.States.{state}
 
 -- one entry more or less that waits
 busy_set : (cs : List Cabinet) (i : ℕ) (v : Cabinet) → i < length cs → busy (set cs i v) + waits (get_or cs i Idle) ≡ busy cs + waits v

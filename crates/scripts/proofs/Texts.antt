@@ -1,5 +1,5 @@
 -- The lines of an account, one call after the other. Assumes nothing.
-use Rattle.std.proofs.Common.{◌≡◌, ℕ, ◌⊎◌, inl, inr, List, [], ◌∷◌, ◌++◌, refl, ap, ◌∙◌}
+use Rattle.std.proofs.Common.{◌≡◌, ℕ, ◌⊎◌, inl, inr, List, [], ◌∷◌, refl, ap, ◌∙◌}
 use Rattle.replaying.specs.Scripts.{Answer}
 use Rattle.replaying.specs.declared.call.Call.{Call}
 use Rattle.scripts.specs.Accounts.{lines_words}

@@ -2,7 +2,7 @@ use Rattle.std.proofs.Common.{◌≡◌, length, get_or, vec_items, sym, ap, ◌
 use Rattle.logs.specs.States.{state_of}
 use Rattle.replaying.specs.Runs.{Reached, Steps, records}
 use Rattle.replaying.specs.Surveys.{survey_rule}
-use Rattle.replaying.proofs.Running.{reached_none, reached_more, ran_all, ran_on}
+use Rattle.replaying.proofs.Running.{reached_none, reached_more, ran_all}
 use Rattle.replaying.proofs.replay.run.Goals as goal
 
 pub loop-call-init : goal.loop-call-init
