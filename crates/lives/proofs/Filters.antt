@@ -1,5 +1,6 @@
 -- Tests on lists, one after the other. Assumes nothing.
-use Rattle.std.proofs.Common.{◌≡◌, ℕ, suc, ◌≤◌, Bool, true, false, cond, not, ◌&&◌, ◌||◌, List, [], ◌∷◌, length, filter, sym, refl, ap, ◌∙◌, arith}
+use Rattle.std.proofs.Common.{◌≡◌, suc, ◌≤◌, Bool, true, false, cond, not, ◌&&◌, ◌||◌, List, [], ◌∷◌, length, filter, sym, refl, ap, ◌∙◌, arith}
+use Rattle.std.proofs.lemmas.List.Filters.{length-filter_both}
 
 pub and_comm : (a b : Bool) → (a && b) ≡ (b && a)
 and_comm true true = refl
@@ -33,13 +34,8 @@ module _ {A : Type 0} where
   pub kept_swap : (p q : A → Bool) (xs : List A) → filter p (filter q xs) ≡ filter q (filter p xs)
   kept_swap p q xs = sym (kept_twice p q xs) ∙ (kept_same (λ x. p x && q x) (λ x. q x && p x) (λ x. and_comm (p x) (q x)) xs ∙ kept_twice q p xs)
 
-  less_at : (b : Bool) (x : A) (ks : List A) (n : ℕ) → length ks ≤ n → length (cond b (x ∷ ks) ks) ≤ suc n
-  less_at true x ks n h = omega arith
-  less_at false x ks n h = omega arith
-
   kept_less : (p : A → Bool) (xs : List A) → length (filter p xs) ≤ length xs
-  kept_less p [] = omega arith
-  kept_less p (x ∷ xs) = less_at (p x) x (filter p xs) (length xs) (kept_less p xs)
+  kept_less p xs = omega (arith, length-filter_both p (λ x. not (p x)) (λ x. refl) xs)
 
   -- one test more keeps no more
   pub kept_fewer : (p q : A → Bool) (xs : List A) → length (filter p (filter q xs)) ≤ length (filter p xs)
@@ -60,7 +56,3 @@ module _ {A : Type 0} where
   pub kept_whole : (p : A → Bool) (xs : List A) → length (filter p xs) ≡ length xs → filter p xs ≡ xs
   kept_whole p [] e = refl
   kept_whole p (x ∷ xs) e = whole_at (p x) p x xs (kept_whole p xs) e
-
-  pub none_long : (xs : List A) → length xs ≡ 0 → xs ≡ []
-  none_long [] e = refl
-  none_long (x ∷ xs) e = absurd (omega arith)

@@ -1,6 +1,7 @@
 -- Each call carries on the lives that led to its storage. Assumes nothing.
 use Rattle.std.proofs.Common.{◌≡◌, ℕ, ◌<◌, ◌≤◌, Bool, true, false, cond, not, ◌&&◌, eqb, ltb, ◌≢◌, List, [], ◌∷◌, ◌++◌, map, length, get_or, set, Some, None, Ok, Err, filter, Result, sym, refl, ap, ◌∙◌, subst, ⊎_elim, arith, get_or-set_other, get_or-set_same}
 use lib.ListN.{get_or-eq_default}
+use Rattle.std.proofs.lemmas.List.{nil_from_length}
 use Rattle.std.proofs.lemmas.Bool.{eqb-true, eqb-false, eq-eqb, cases_lt}
 use Rattle.std.proofs.lemmas.Bool.Decides.{nat_tests}
 use Rattle.operations.specs.Checks.{first_failed}
@@ -13,7 +14,7 @@ use Rattle.lives.specs.Refusals.{log_refusal}
 use Rattle.lives.specs.Rules.{tally, begin_checks, ticket_checks}
 use Rattle.lives.specs.Words.{Start, start, on, of, same_sort, has_ticket, begun, ends, settled, waiting, some, next_tick, recording, operation, shown}
 use Rattle.lives.specs.declared.refusal.LogRefusal.{LogRefusal}
-use Rattle.lives.proofs.Filters.{and_comm, kept_same, kept_twice, kept_swap, kept_whole, none_long}
+use Rattle.lives.proofs.Filters.{and_comm, kept_same, kept_twice, kept_swap, kept_whole}
 use Rattle.lives.proofs.Lawful.{Lawful, lawful, begun_due, begun_waiting, of_one, begin_one, rest, rest_less, settled_rest}
 use Rattle.logs.specs.declared.cabinet.Cabinet.{Cabinet}
 use Rattle.logs.specs.declared.cabinet.Cabinet.TheVariants.{Idle, Reading, Writing}
@@ -103,7 +104,7 @@ module _ {V : Type 0} (rule : SurveyRuleOf V) (first entries : ℕ) (es : List (
         cond x (start k c b t ∷ filter (on d) (waiting es)) (filter (on d) (waiting es)) ≡ holding d (get_or (set s.cabinets c (occupied k b s.next)) d Idle)
     begun_cabinets k c b t l n z d true e =
         let q = eqb-true d c e in
-        let none : filter (on d) (waiting es) ≡ [] = none_long (filter (on d) (waiting es)) (ap (λ y. length (filter (on y) (waiting es))) q ∙ z) in
+        let none : filter (on d) (waiting es) ≡ [] = nil_from_length (filter (on d) (waiting es)) (ap (λ y. length (filter (on y) (waiting es))) q ∙ z) in
         let w : c < length s.cabinets = omega arith in
         let g : get_or (set s.cabinets c (occupied k b s.next)) d Idle ≡ occupied k b s.next = ap (λ y. get_or (set s.cabinets c (occupied k b s.next)) y Idle) q ∙ get_or-set_same s.cabinets c (occupied k b s.next) Idle w in
         ap (λ l. start k c b t ∷ l) none ∙ ((λ i. start k (sym q i) b (n i) ∷ []) ∙ (sym (holding_occupied d k b s.next) ∙ ap (holding d) (sym g)))

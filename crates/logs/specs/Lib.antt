@@ -1,3 +1,5 @@
+pub mod Names
+pub mod Words
 pub mod Cabinets
 pub mod States
 pub mod Steps

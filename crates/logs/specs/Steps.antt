@@ -10,16 +10,13 @@ use Rattle.logs.specs.declared.cabinet.Cabinet.TheVariants.{Idle}
 use Rattle.logs.specs.declared.log.Closed.{Closed}
 use Rattle.logs.specs.declared.log.Recording.{Recording}
 use Rattle.logs.specs.declared.handed_back.HandedBack.{HandedBack}
-use Rattle.logs.specs.declared.read_ticket.ReadTicket.{ReadTicket}
-use Rattle.logs.specs.declared.write_ticket.WriteTicket.{WriteTicket}
+use Rattle.logs.specs.declared.ticket.Ticket.{Ticket}
 use Rattle.logs.specs.Cabinets.{is_idle, occupied, holds, bay_of}
 use Rattle.logs.specs.States.{State, opened_at}
 
-abbrev pub read_ticket : ℕ → ℕ → ReadTicket
-read_ticket cabinet begun = record { cabinet = cabinet; begun = begun }
-
-abbrev pub write_ticket : ℕ → ℕ → WriteTicket
-write_ticket cabinet begun = record { cabinet = cabinet; begun = begun }
+-- the ticket of this cabinet and begin tick, of either sort
+abbrev pub ticket : {A : Type 0} → ℕ → ℕ → Ticket A
+ticket cabinet begun = record { cabinet = cabinet; begun = begun; act = record {} }
 
 abbrev pub cabinet_at : {V : Type 0} → State V → ℕ → Cabinet
 cabinet_at s cabinet = slice_index_or s.cabinets cabinet Idle
@@ -86,7 +83,7 @@ Ends why s t sort cabinet begun value (Ok _) = (ticket_refusal s sort cabinet be
 Ends why s t sort cabinet begun value (Err e) = (ticket_refusal s sort cabinet begun ≡ Some (why e)) × (t ≡ s)
 
 -- a loss of a ticket
-abbrev pub Loses : {V : Type 0} → State V → State V → Sort → ℕ → ℕ → Result (Unit {0}) LogRefusal → Type 0
+abbrev pub Loses : {V T : Type 0} → State V → State V → Sort → ℕ → ℕ → Result T LogRefusal → Type 0
 Loses s t sort cabinet begun (Ok _) = (ticket_refusal s sort cabinet begun ≡ None) × (t ≡ lost s cabinet)
 Loses s t sort cabinet begun (Err e) = (ticket_refusal s sort cabinet begun ≡ Some e) × (t ≡ s)
 

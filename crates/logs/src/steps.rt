@@ -1,5 +1,5 @@
 // What the calls of a log do to its storage.
-ghost use Rattle.std.specs.Prelude.{◌≡◌, ◌≤◌, false, [], length, is_ok, MatchOption, slice_index_or};
+ghost use Rattle.std.specs.Prelude.{◌≡◌, ◌≤◌, false, [], length, is_ok, IfOk, MatchOption, slice_index_or};
 ghost use Rattle.operations.specs.Rows.{AllValid};
 ghost use Rattle.lives.specs.Life.{any_answer};
 ghost use Rattle.logs.specs.Cabinets.{occupied, holds, waits, Found};
@@ -10,6 +10,7 @@ ghost use Rattle.logs.specs.declared.cabinet.Cabinet.TheVariants.{Idle};
 
 use crate::cabinet::Cabinet;
 use crate::storage::Storage;
+use crate::ticket_name::TicketName;
 use lists::BoundedList;
 use lives::refusal::LogRefusal;
 use operations::row::{Row, Sort};
@@ -23,12 +24,15 @@ pub(crate) const LAST_TICK: u32 = 1_073_741_823;
 // How many operations a log may hold, however long its storage is.
 const MOST: usize = 512;
 
-fn occupied_by(sort: Sort, bay: u8, begun: u32) -> Cabinet
-    ensures { result ≡ occupied sort bay begun }
-{
-    match sort {
-        Sort::Read => Cabinet::Reading { bay, begun },
-        Sort::Write => Cabinet::Writing { bay, begun },
+impl Cabinet {
+    // A cabinet with an operation of this sort.
+    fn occupied(sort: Sort, bay: u8, begun: u32) -> Cabinet
+        ensures { result ≡ occupied sort bay begun }
+    {
+        match sort {
+            Sort::Read => Cabinet::Reading { bay, begun },
+            Sort::Write => Cabinet::Writing { bay, begun },
+        }
     }
 }
 
@@ -78,22 +82,20 @@ impl<'a, V: Copy> Storage<'a, V> {
             return Err(LogRefusal::NoTick { next: self.next });
         }
         let begun = self.next;
-        self.cabinets[cabinet as usize] = occupied_by(sort, bay as u8, begun);
+        self.cabinets[cabinet as usize] = Cabinet::occupied(sort, bay as u8, begun);
         self.next = begun + 1;
         self.waiting += 1;
         Ok(begun)
     }
 
-    // The bay of the operation that the cabinet holds, where that has this sort and begin tick.
-    fn bay_held(&self, sort: Sort, cabinet: u32, begun: u32) -> Option<u8>
-        ensures { MatchOption result (holds sort begun (slice_index_or self.now.cabinets cabinet Idle) ≡ false) (Found self.now.cabinets self.now.next self.now.waiting sort cabinet begun) }
+    // The bay of the operation that waits under this name.
+    fn bay_held(&self, name: TicketName) -> Option<u8>
+        ensures { MatchOption result (holds name.sort name.begun (slice_index_or self.now.cabinets name.cabinet Idle) ≡ false) (Found self.now.cabinets self.now.next self.now.waiting name.sort name.cabinet name.begun) }
     {
-        if cabinet > LAST {
-            return None;
-        }
-        match (self.cabinets[cabinet as usize], sort) {
-            (Cabinet::Reading { bay, begun: tick }, Sort::Read) if tick == begun => Some(bay),
-            (Cabinet::Writing { bay, begun: tick }, Sort::Write) if tick == begun => Some(bay),
+        let cabinet = self.cabinets.get(name.cabinet as usize)?;
+        match (*cabinet, name.sort) {
+            (Cabinet::Reading { bay, begun }, Sort::Read) if begun == name.begun => Some(bay),
+            (Cabinet::Writing { bay, begun }, Sort::Write) if begun == name.begun => Some(bay),
             _ => None,
         }
     }
@@ -108,27 +110,32 @@ impl<'a, V: Copy> Storage<'a, V> {
         self.waiting -= 1;
     }
 
-    pub(crate) fn end(
-        &mut self,
-        sort: Sort,
-        cabinet: u32,
-        begun: u32,
-        value: V,
-    ) -> Result<(), LogRefusal>
-        ensures answer { Ends (λ e. e) (state_of self.old) (state_of self.new) sort cabinet begun value result }
+    // Frees the cabinet of the operation that waits under this name, and answers its bay.
+    fn release(&mut self, name: TicketName) -> Result<u8, LogRefusal>
+        ensures found { IfOk result (Found self.old.cabinets self.old.next self.old.waiting name.sort name.cabinet name.begun) }
+        ensures answer { Loses (state_of self.old) (state_of self.new) name.sort name.cabinet name.begun result }
+        ensures kept { self.new.ended ≡ self.old.ended }
         ensures untouched { is_ok result ≡ false → self.new ≡ self.old }
     {
-        let Some(bay) = self.bay_held(sort, cabinet, begun) else {
-            return Err(LogRefusal::NotWaiting { begun });
-        };
-        self.free(cabinet);
+        let bay = self
+            .bay_held(name)
+            .ok_or(LogRefusal::NotWaiting { begun: name.begun })?;
+        self.free(name.cabinet);
+        Ok(bay)
+    }
+
+    pub(crate) fn end(&mut self, name: TicketName, value: V) -> Result<(), LogRefusal>
+        ensures answer { Ends (λ e. e) (state_of self.old) (state_of self.new) name.sort name.cabinet name.begun value result }
+        ensures untouched { is_ok result ≡ false → self.new ≡ self.old }
+    {
+        let bay = self.release(name)?;
         let finish = self.next;
         let row = Row {
-            sort,
+            sort: name.sort,
             bay,
-            cabinet: cabinet as u8,
+            cabinet: name.cabinet as u8,
             value,
-            start: begun,
+            start: name.begun,
             finish,
         };
         let Ok(()) = self.ended.push(row) else {
@@ -138,17 +145,12 @@ impl<'a, V: Copy> Storage<'a, V> {
         Ok(())
     }
 
-    pub(crate) fn lose(&mut self, sort: Sort, cabinet: u32, begun: u32) -> Result<(), LogRefusal>
-        ensures answer { Loses (state_of self.old) (state_of self.new) sort cabinet begun result }
+    pub(crate) fn lose(&mut self, name: TicketName) -> Result<(), LogRefusal>
+        ensures answer { Loses (state_of self.old) (state_of self.new) name.sort name.cabinet name.begun result }
         ensures untouched { is_ok result ≡ false → self.new ≡ self.old }
     {
-        match self.bay_held(sort, cabinet, begun) {
-            Some(_) => {
-                self.free(cabinet);
-                Ok(())
-            }
-            None => Err(LogRefusal::NotWaiting { begun }),
-        }
+        self.release(name)?;
+        Ok(())
     }
 
     // The rows of the operations that ended.

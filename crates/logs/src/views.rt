@@ -51,10 +51,7 @@ impl<'a, V: Kind> Source for LogView<'a, V> {
     }
 
     fn at(&self, place: usize) -> Result<Operation<V>, PastEnd> {
-        match self.told(place) {
-            Some(operation) => Ok(operation),
-            None => Err(PastEnd { place }),
-        }
+        self.told(place).ok_or(PastEnd { place })
     }
 
     fn next(&self, position: usize) -> Option<Step<V>> {

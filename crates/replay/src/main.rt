@@ -4,11 +4,9 @@
 
 use anyhow::anyhow;
 use logs::storage::Storage;
-use operations::refusals::Refused;
 use operations::row::{Row, Sort};
 use replaying::desk::Desk;
 use replaying::replay::replay;
-use replaying::stop::Stop;
 use scripts::account::account;
 use scripts::script::Script;
 use std::alloc::Global;
@@ -19,9 +17,7 @@ use values::serial::Serial;
 // The script of a text. A line that is not one of a script ends it.
 fn script_of(heap: Global, text: &str) -> anyhow::Result<Script> {
     let mut script = Script::new(heap);
-    let mut number = 0usize;
-    for line in text.lines() {
-        number = number.saturating_add(1);
+    for (number, line) in (1usize..).zip(text.lines()) {
         if let Err(unread) = script.read(heap, line) {
             return Err(anyhow!(format!(in heap; "line {number}: {unread}")?));
         }
@@ -42,11 +38,7 @@ fn blank_rows(heap: Global, entries: u32) -> anyhow::Result<Vec<Row<Serial>>> {
         start: 0,
         finish: 0,
     };
-    let mut rows = Vec::new(heap);
-    for _ in 0..entries {
-        rows.push(blank)?;
-    }
-    Ok(rows)
+    Ok(vec![in heap; blank; entries as usize]?)
 }
 
 // The account of the script, or why it was not run.
@@ -61,18 +53,14 @@ fn account_of(heap: Global, script: &Script) -> anyhow::Result<String> {
         &mut desk,
     ) {
         Ok(()) => Ok(account(heap, script.calls.as_slice(), desk.answers())?),
-        Err(Stop::Refused(refused)) => Ok(refused.refusal().to_string(heap)?),
-        Err(Stop::TooLong { places }) => Ok(format!(in heap; "more than {places} calls")?),
+        Err(stop) => Ok(stop.to_string(heap)?),
     }
 }
 
 fn run(rt: &HostRuntime) -> anyhow::Result<()> {
     let heap = rt.alloc();
-    let mut words = env::args(rt)?.skip(1);
-    let text = match words.next() {
-        Some(name) => fs::read_to_string(rt, name.as_str())?,
-        None => fs::read_to_string(rt, "script.txt")?,
-    };
+    let name = env::args(rt)?.nth(1);
+    let text = fs::read_to_string(rt, name.as_deref().unwrap_or("script.txt"))?;
     let script = script_of(heap, text.as_str())?;
     let account = account_of(heap, &script)?;
     println!(rt; "{account}")?;

@@ -1,5 +1,7 @@
 -- Calls of a script with their answers. Assumes nothing.
-use Rattle.std.proofs.Common.{◌≡◌, ℕ, Bool, false, List, ◌∷◌, Ok, Err, Option, Result, sym, refl, ap, ◌∙◌, inl, inr, arith}
+use Rattle.std.proofs.Common.{◌≡◌, ℕ, Bool, false, List, ◌∷◌, Some, None, Ok, Err, Option, Result, Bor, option_map, vec_items, sym, refl, ap, ◌∙◌, inl, inr, arith}
+use Rattle.std.specs.Global.{Vec}
+use Rattle.leaving.specs.Leaving.{entries}
 use Rattle.operations.specs.Refusals.{no_bay}
 use Rattle.operations.specs.declared.refusal.Refusal.{Refusal}
 use Rattle.surveying.specs.declared.report.Report.{Report}
@@ -10,26 +12,30 @@ use Rattle.logs.specs.States.{State}
 use Rattle.logs.specs.Stands.{Carries}
 use Rattle.logs.proofs.Surveying.{carried}
 use Rattle.replaying.specs.Runs.{Goes}
-use Rattle.replaying.specs.Scripts.{answer_of, reported}
+use Rattle.replaying.specs.Scripts.{Answer, bays_of, answer_of, reported}
 use Rattle.replaying.specs.Surveys.{Surveys}
-use Rattle.replaying.specs.declared.answer.Answer.{Answer}
-use Rattle.replaying.specs.declared.answer.Answer.TheVariants as answer
+use Rattle.replaying.specs.declared.answer.Accepted.TheVariants as accepted
 
-module _ {V : Type 0} (rule : SurveyRuleOf V) (s t : State V) where
-  -- a call of the log itself, that leaves it recording or closed as it was
-  pub goes_on : (before : Bool) (e : Event V) (r : Answer) → is_survey (call_of e) ≡ false → ((es : List (Event V)) → recording (e ∷ es) ≡ recording es) → answer_of e ≡ r → Carries before s e t → Goes rule before before s t (call_of e) r
-  goes_on before e r own stays told carries =
-      record { event = e; of = refl; told = told; phase = λ es at. stays es ∙ at; carries = (carried rule).calls before s t e own carries }
+-- a call of the log itself
+pub goes : {V : Type 0} (rule : SurveyRuleOf V) (s t : State V) (before after : Bool) (e : Event V) → is_survey (call_of e) ≡ false → ((es : List (Event V)) → recording es ≡ before → recording (e ∷ es) ≡ after) → Carries before s e t → Goes rule before after s t (call_of e) (answer_of e)
+goes rule s t before after e own phase carries = record { event = e; of = refl; told = refl; phase = phase; carries = (carried rule).calls before s t e own carries }
 
-  -- one that closes it or makes it recording again
-  pub turns : (before after : Bool) (e : Event V) → is_survey (call_of e) ≡ false → ((es : List (Event V)) → recording (e ∷ es) ≡ after) → Carries before s e t → Goes rule before after s t (call_of e) (answer_of e)
-  turns before after e own turned carries =
-      record { event = e; of = refl; told = refl; phase = λ es at. turned es; carries = (carried rule).calls before s t e own carries }
+entries_are : (r : Option (Bor (List ℕ))) → entries r ≡ listed (option_map (λ x. x.now) r)
+entries_are None = refl
+entries_are (Some x) = refl
+
+bays_are : (bays : Option (Vec ℕ)) → listed (option_map vec_items bays) ≡ listed (bays_of bays)
+bays_are None = refl
+bays_are (Some x) = refl
+
+-- the list of bays of a survey, as it is lent
+pub listed_entries : (r : Option (Bor (List ℕ))) (bays : Option (Vec ℕ)) → option_map (λ x. x.now) r ≡ option_map vec_items bays → entries r ≡ listed (bays_of bays)
+listed_entries r bays e = entries_are r ∙ (ap listed e ∙ bays_are bays)
 
 -- the answer to a survey
 abbrev pub told_of : Result Report Refusal → Answer
-told_of (Ok report) = answer.Surveyed report
-told_of (Err e) = answer.Refused e
+told_of (Ok report) = Ok (accepted.Surveyed report)
+told_of (Err e) = Err e
 
 module _ {V : Type 0} (rule : SurveyRuleOf V) (s : State V) where
   pub survey_goes : (bays : Option (List ℕ)) (limit : ℕ) (r : Result Report Refusal) → Surveys rule s.ended (listed bays) limit r → Goes rule false false s s (Survey bays limit) (told_of r)
@@ -37,7 +43,7 @@ module _ {V : Type 0} (rule : SurveyRuleOf V) (s : State V) where
   survey_goes bays limit (Err e) (inl h) =
       let is = h.2 in
       let same : e ≡ no_bay h.0 = cc in
-      record { event = Refused (Survey bays limit) (no_bay h.0); of = refl; told = ap answer.Refused (sym same); phase = λ es at. at; carries = (carried rule).no_bays s bays limit h.0 h.1 }
+      record { event = Refused (Survey bays limit) (no_bay h.0); of = refl; told = ap Err (sym same); phase = λ es at. at; carries = (carried rule).no_bays s bays limit h.0 h.1 }
   survey_goes bays limit (Ok report) (inr h) =
       record { event = Surveyed bays limit (reported report); of = refl; told = refl; phase = λ es at. at; carries = (carried rule).surveys s bays limit (Ok (reported report)) h.0 h.1 }
   survey_goes bays limit (Err e) (inr h) =

@@ -1,3 +1,3 @@
-pub mod Ticketing
 pub mod Going
 pub mod Running
+pub mod Texts

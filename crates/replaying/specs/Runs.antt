@@ -6,9 +6,8 @@ use Rattle.lives.specs.Words.{recording}
 use Rattle.logs.specs.Stands.{Leads, CarriesBy}
 use Rattle.logs.specs.States.{State}
 use Rattle.logs.specs.Steps.{open_refusal}
-use Rattle.replaying.specs.Scripts.{meant, answer_of}
+use Rattle.replaying.specs.Scripts.{Answer, meant, answer_of}
 use Rattle.replaying.specs.Tickets.{issued}
-use Rattle.replaying.specs.declared.answer.Answer.{Answer}
 use Rattle.replaying.specs.declared.call.Call.{Call}
 use Rattle.replaying.specs.declared.call.Call.TheVariants.{Begin, End, Lose, Close, Reopen, Survey}
 use Rattle.replaying.specs.declared.log.Log.{Log}

@@ -4,8 +4,8 @@ use Rattle.std.specs.Global.{Vec}
 use Rattle.operations.specs.declared.refusal.Refusal.{Refusal}
 use Rattle.surveying.specs.declared.report.Report.{Report}
 use Rattle.lives.specs.Calls as life
-use Rattle.replaying.specs.declared.answer.Answer.{Answer}
-use Rattle.replaying.specs.declared.answer.Answer.TheVariants.{Begun, Ended, Lost, Closed, Reopened, Surveyed, Refused}
+use Rattle.replaying.specs.declared.answer.Accepted.{Accepted}
+use Rattle.replaying.specs.declared.answer.Accepted.TheVariants.{Begun, Ended, Lost, Closed, Reopened, Surveyed}
 use Rattle.replaying.specs.declared.call.Call.{Call}
 use Rattle.replaying.specs.declared.call.Call.TheVariants.{Begin, End, Lose, Close, Reopen, Survey}
 
@@ -32,12 +32,16 @@ abbrev pub answered : Result Report Refusal → Result life.Report Refusal
 answered (Ok report) = Ok (reported report)
 answered (Err e) = Err e
 
+-- the answer to a call: it was accepted, or refused
+abbrev pub Answer : Type 0
+Answer = Result Accepted Refusal
+
 -- the answer that an event tells
 abbrev pub answer_of : {V : Type 0} → life.Event V → Answer
-answer_of (life.Begun _ _ _ tick) = Begun tick
-answer_of (life.Ended _ _ _ _) = Ended
-answer_of (life.Lost _ _ _) = Lost
-answer_of life.Closed = Closed
-answer_of life.Reopened = Reopened
-answer_of (life.Surveyed _ _ report) = Surveyed (record { age = report.age; trials = report.trials; kept = report.count })
-answer_of (life.Refused _ e) = Refused e
+answer_of (life.Begun _ _ _ tick) = Ok (Begun tick)
+answer_of (life.Ended _ _ _ _) = Ok Ended
+answer_of (life.Lost _ _ _) = Ok Lost
+answer_of life.Closed = Ok Closed
+answer_of life.Reopened = Ok Reopened
+answer_of (life.Surveyed _ _ report) = Ok (Surveyed (record { age = report.age; trials = report.trials; kept = report.count }))
+answer_of (life.Refused _ e) = Err e

@@ -2,15 +2,15 @@
 use Rattle.std.specs.Prelude.{ℕ, Bool, ◌&&◌, nat_le}
 use Rattle.operations.specs.declared.row.Sort.{Sort}
 use Rattle.operations.specs.declared.row.Sort.TheVariants as sort
-use Rattle.logs.specs.Steps.{read_ticket, write_ticket}
+use Rattle.logs.specs.Steps.{ticket}
+use Rattle.logs.specs.declared.ticket_name.TicketName.{TicketName}
 use Rattle.replaying.specs.declared.ticket.Ticket.{Ticket}
 use Rattle.replaying.specs.declared.ticket.Ticket.TheVariants.{Read, Write}
-use Rattle.replaying.specs.declared.ticket_name.TicketName.{TicketName}
 
 -- the ticket of this sort, cabinet and begin tick
 abbrev pub ticket_of : Sort → ℕ → ℕ → Ticket
-ticket_of sort.Read cabinet begun = Read (read_ticket cabinet begun)
-ticket_of sort.Write cabinet begun = Write (write_ticket cabinet begun)
+ticket_of sort.Read cabinet begun = Read (ticket cabinet begun)
+ticket_of sort.Write cabinet begun = Write (ticket cabinet begun)
 
 -- the ticket of this name
 abbrev pub named : TicketName → Ticket

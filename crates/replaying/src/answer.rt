@@ -2,14 +2,16 @@
 use operations::refusal::Refusal;
 use surveying::report::Report;
 
-// The answer to a call: it was accepted, as a call of its sort is, or refused.
+// What an accepted call was told, as a call of its sort is.
 #[derive(Clone, Copy)]
-pub enum Answer {
+pub enum Accepted {
     Begun { tick: u32 },
     Ended,
     Lost,
     Closed,
     Reopened,
     Surveyed(Report),
-    Refused(Refusal),
 }
+
+// The answer to a call: it was accepted, or refused.
+pub type Answer = Result<Accepted, Refusal>;

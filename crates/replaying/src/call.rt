@@ -1,5 +1,5 @@
 // The calls of a script.
-use crate::ticket_name::TicketName;
+use logs::ticket_name::TicketName;
 use operations::row::Sort;
 
 // A call to make on a log.

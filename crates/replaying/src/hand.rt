@@ -3,7 +3,7 @@ ghost use Rattle.std.specs.Prelude.{◌≡◌, false, IfSome, MatchOption};
 ghost use Rattle.replaying.specs.Tickets.{named, issued};
 
 use crate::ticket::Ticket;
-use crate::ticket_name::TicketName;
+use logs::ticket_name::TicketName;
 use std::alloc::{AllocFailed, Global};
 
 // What the begins handed out and no end or loss has taken yet.
@@ -29,22 +29,18 @@ impl Hand {
     fn find(&mut self, name: TicketName) -> Option<Ticket>
         ensures { IfSome result (λ t. t ≡ named name) }
     {
-        for place in 0..self.tickets.len() {
-            if self.tickets[place].is(name) {
-                return Some(self.tickets.swap_remove(place));
-            }
-        }
-        None
+        let place = self
+            .tickets
+            .iter()
+            .position(|ticket| ticket.name() == name)?;
+        Some(self.tickets.swap_remove(place))
     }
 
     // The ticket of this name: the one in hand, or else one from another log.
     pub(crate) fn take(&mut self, name: TicketName) -> Option<Ticket>
         ensures { MatchOption result (issued name ≡ false) (λ t. t ≡ named name) }
     {
-        match self.find(name) {
-            Some(ticket) => Some(ticket),
-            None => Ticket::mint(name),
-        }
+        self.find(name).or_else(|| Ticket::mint(name))
     }
 
     // Gives back what is left.

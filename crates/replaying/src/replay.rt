@@ -34,10 +34,10 @@ fn run<V: Kind>(
     for call in script {
         let Stepped { log: next, answer } = step(log, storage, hand, call, surveys);
         log = next;
-        match answer {
-            Some(answer) => answers.push_reserved(answer),
-            None => return log,
-        }
+        let Some(answer) = answer else {
+            return log;
+        };
+        answers.push_reserved(answer);
     }
     log
 }
@@ -58,10 +58,7 @@ pub fn replay<V: Kind>(
             places: desk.places,
         });
     }
-    let log = match Recording::open(storage, first) {
-        Ok(log) => log,
-        Err(refusal) => return Err(Stop::Refused(refusal)),
-    };
+    let log = Recording::open(storage, first)?;
     desk.answers.clear();
     let mut hand = Hand::new(desk.heap);
     let _ = run(

@@ -7,17 +7,16 @@ ghost use Rattle.replaying.specs.Scripts.{bays_of};
 ghost use Rattle.replaying.specs.Surveys.{survey_rule};
 ghost use Rattle.replaying.specs.declared.call.Call.TheVariants.{End, Lose, Close};
 
-use crate::answer::Answer;
+use crate::answer::{Accepted, Answer};
 use crate::call::Call;
 use crate::hand::Hand;
 use crate::log::Log;
-use crate::surveys::{listed, survey};
+use crate::surveys::survey;
 use crate::ticket::Ticket;
-use crate::ticket_name::TicketName;
 use logs::handed_back::HandedBack;
 use logs::log::{Closed, Recording};
 use logs::storage::Storage;
-use operations::refusals::Refused;
+use logs::ticket_name::TicketName;
 use operations::row::Sort;
 use surveying::desk::SurveyDesk;
 use values::kind::Kind;
@@ -38,14 +37,10 @@ fn begin<V: Kind>(
 ) -> Answer
     ensures { Goes (survey_rule V.Kind.meaning) true true (state_of storage.old) (state_of storage.new) (LifeBegin sort cabinet bay) result }
 {
-    match Ticket::begin(log, storage, sort, cabinet, bay) {
-        Ok(ticket) => {
-            let tick = ticket.begun();
-            hand.keep(ticket);
-            Answer::Begun { tick }
-        }
-        Err(refusal) => Answer::Refused(refusal.refusal()),
-    }
+    let ticket = Ticket::begin(log, storage, sort, cabinet, bay)?;
+    let tick = ticket.name().begun;
+    hand.keep(ticket);
+    Ok(Accepted::Begun { tick })
 }
 
 fn end<V: Kind>(
@@ -59,7 +54,7 @@ fn end<V: Kind>(
 {
     let ticket = hand.take(name)?;
     match ticket.end(log, storage, value) {
-        Ok(()) => Some(Answer::Ended),
+        Ok(()) => Some(Ok(Accepted::Ended)),
         Err(
             HandedBack {
                 refusal,
@@ -67,7 +62,7 @@ fn end<V: Kind>(
             },
         ) => {
             hand.keep(ticket);
-            Some(Answer::Refused(refusal.refusal()))
+            Some(Err(refusal.into()))
         }
     }
 }
@@ -82,8 +77,8 @@ fn lose<V: Kind>(
 {
     let ticket = hand.take(name)?;
     match ticket.lose(log, storage) {
-        Ok(()) => Some(Answer::Lost),
-        Err(refusal) => Some(Answer::Refused(refusal.refusal())),
+        Ok(()) => Some(Ok(Accepted::Lost)),
+        Err(refusal) => Some(Err(refusal.into())),
     }
 }
 
@@ -93,11 +88,11 @@ fn close<V: Kind>(log: Recording, storage: &Storage<'_, V>) -> Stepped
     match log.close(storage) {
         Ok(closed) => Stepped {
             log: Log::Closed(closed),
-            answer: Some(Answer::Closed),
+            answer: Some(Ok(Accepted::Closed)),
         },
         Err(HandedBack { refusal, value }) => Stepped {
             log: Log::Recording(value),
-            answer: Some(Answer::Refused(refusal.refusal())),
+            answer: Some(Err(refusal.into())),
         },
     }
 }
@@ -111,10 +106,8 @@ fn surveyed<V: Kind>(
 ) -> Answer
     ensures { Goes (survey_rule V.Kind.meaning) false false (state_of storage.now) (state_of storage.now) (LifeSurvey (bays_of bays.now) limit) result }
 {
-    match survey(log, storage, listed(bays), limit, desk) {
-        Ok(report) => Answer::Surveyed(report),
-        Err(refusal) => Answer::Refused(refusal),
-    }
+    let report = survey(log, storage, bays.as_deref(), limit, desk)?;
+    Ok(Accepted::Surveyed(report))
 }
 
 // A recording log is neither reopened nor surveyed.
@@ -153,7 +146,7 @@ fn step_closed<V: Kind>(
     match call {
         Call::Reopen => Stepped {
             log: Log::Recording(log.reopen(storage)),
-            answer: Some(Answer::Reopened),
+            answer: Some(Ok(Accepted::Reopened)),
         },
         Call::Survey { bays, limit } => {
             let answer = surveyed(&log, storage, bays, *limit, surveys);

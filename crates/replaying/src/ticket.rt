@@ -1,9 +1,9 @@
 // Tickets of either sort.
-use logs::read_ticket::ReadTicket;
-use logs::write_ticket::WriteTicket;
+use logs::act::{Read, Write};
+use logs::ticket::Ticket as TicketOf;
 
 // It has to be given back, as each of the two has.
 pub(crate) enum Ticket {
-    Read(ReadTicket),
-    Write(WriteTicket),
+    Read(TicketOf<Read>),
+    Write(TicketOf<Write>),
 }

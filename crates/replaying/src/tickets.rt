@@ -3,15 +3,15 @@ ghost use Rattle.std.specs.Prelude.{◌≡◌, true, false, MatchOption};
 ghost use Rattle.logs.specs.Stands.{Carries, begin_event, end_event, lose_event};
 ghost use Rattle.logs.specs.States.{state_of};
 ghost use Rattle.logs.specs.Steps.{Begins};
-ghost use Rattle.replaying.specs.declared.ticket_name.TicketName.{TicketName as Name};
+ghost use Rattle.logs.specs.declared.ticket_name.TicketName.{TicketName as Name};
 ghost use Rattle.replaying.specs.Tickets.{ticket_of, named, tick_of, issued};
 
 use crate::ticket::Ticket;
-use crate::ticket_name::TicketName;
 use lives::refusal::LogRefusal;
 use logs::handed_back::HandedBack;
 use logs::log::Recording;
 use logs::storage::Storage;
+use logs::ticket_name::TicketName;
 use operations::row::{Row, Sort};
 
 // A row to make storage of; what it holds does not matter.
@@ -37,39 +37,19 @@ impl Ticket {
         ensures life { Carries true (state_of storage.old) (begin_event tick_of sort cabinet bay result) (state_of storage.new) }
     {
         match sort {
-            Sort::Read => match log.begin_read(storage, cabinet, bay) {
-                Ok(ticket) => Ok(Ticket::Read(ticket)),
-                Err(refusal) => Err(refusal),
-            },
-            Sort::Write => match log.begin_write(storage, cabinet, bay) {
-                Ok(ticket) => Ok(Ticket::Write(ticket)),
-                Err(refusal) => Err(refusal),
-            },
+            Sort::Read => Ok(Ticket::Read(log.begin(storage, cabinet, bay)?)),
+            Sort::Write => Ok(Ticket::Write(log.begin(storage, cabinet, bay)?)),
         }
     }
 
-    // The tick of the begin.
-    pub(crate) fn begun(&self) -> u32
-        ensures { result ≡ tick_of self.now }
+    // What the ticket is known by.
+    pub(crate) fn name(&self) -> TicketName
+        ensures whole { named result ≡ self.now }
+        ensures begun { result.begun ≡ tick_of self.now }
     {
         match self {
-            Ticket::Read(ticket) => ticket.begun(),
-            Ticket::Write(ticket) => ticket.begun(),
-        }
-    }
-
-    // Whether the ticket has this name.
-    pub(crate) fn is(&self, name: TicketName) -> bool
-        ensures { result ≡ true → self.now ≡ named name }
-    {
-        match (self, name.sort) {
-            (Ticket::Read(ticket), Sort::Read) => {
-                ticket.cabinet() == name.cabinet && ticket.begun() == name.begun
-            }
-            (Ticket::Write(ticket), Sort::Write) => {
-                ticket.cabinet() == name.cabinet && ticket.begun() == name.begun
-            }
-            _ => false,
+            Ticket::Read(ticket) => ticket.name(),
+            Ticket::Write(ticket) => ticket.name(),
         }
     }
 
@@ -83,20 +63,20 @@ impl Ticket {
         ensures { (name : Name) → self ≡ named name → Carries true (state_of storage.old) (end_event (λ e. e.refusal) name.sort name.cabinet name.begun value result) (state_of storage.new) }
     {
         match self {
-            Ticket::Read(ticket) => match log.end_read(storage, ticket, value) {
-                Ok(()) => Ok(()),
-                Err(HandedBack { refusal, value }) => Err(HandedBack {
-                    refusal,
-                    value: Ticket::Read(value),
-                }),
-            },
-            Ticket::Write(ticket) => match log.end_write(storage, ticket, value) {
-                Ok(()) => Ok(()),
-                Err(HandedBack { refusal, value }) => Err(HandedBack {
-                    refusal,
-                    value: Ticket::Write(value),
-                }),
-            },
+            Ticket::Read(ticket) => log.end(storage, ticket, value).map_err(|HandedBack {
+                refusal,
+                value,
+            }| HandedBack {
+                refusal,
+                value: Ticket::Read(value),
+            }),
+            Ticket::Write(ticket) => log.end(storage, ticket, value).map_err(|HandedBack {
+                refusal,
+                value,
+            }| HandedBack {
+                refusal,
+                value: Ticket::Write(value),
+            }),
         }
     }
 
@@ -109,8 +89,8 @@ impl Ticket {
         ensures { (name : Name) → self ≡ named name → Carries true (state_of storage.old) (lose_event name.sort name.cabinet name.begun result) (state_of storage.new) }
     {
         match self {
-            Ticket::Read(ticket) => log.lose_read(storage, ticket),
-            Ticket::Write(ticket) => log.lose_write(storage, ticket),
+            Ticket::Read(ticket) => log.lose(storage, ticket),
+            Ticket::Write(ticket) => log.lose(storage, ticket),
         }
     }
 
@@ -120,13 +100,8 @@ impl Ticket {
     {
         let mut rows = [BLANK; 1];
         let mut storage = Storage::new(&mut rows);
-        let Ok(log) = Recording::open(&mut storage, name.begun) else {
-            return None;
-        };
-        match Ticket::begin(&log, &mut storage, name.sort, name.cabinet, 0) {
-            Ok(ticket) => Some(ticket),
-            Err(_) => None,
-        }
+        let log = Recording::open(&mut storage, name.begun).ok()?;
+        Ticket::begin(&log, &mut storage, name.sort, name.cabinet, 0).ok()
     }
 
     // Gives the ticket back to another log, by a loss.

@@ -1,37 +1,37 @@
 -- The account of a script and its answers. Assumes nothing.
-use Rattle.std.specs.Prelude.{ℕ, ◌+◌, ◌-◌, Bool, true, false, List, [], ◌∷◌, ◌++◌, length, drop, codes, decimal, filter}
-use Rattle.replaying.specs.declared.answer.Answer.{Answer}
-use Rattle.replaying.specs.declared.answer.Answer.TheVariants.{Begun, Ended, Lost, Closed, Reopened, Surveyed, Refused}
+use Rattle.std.specs.Prelude.{ℕ, ◌+◌, ◌-◌, Bool, true, false, List, [], ◌∷◌, ◌++◌, length, drop, codes, decimal, filter, Ok, Err}
+use Rattle.replaying.specs.Scripts.{Answer}
+use Rattle.replaying.specs.declared.answer.Accepted.TheVariants.{Begun, Ended, Lost, Closed, Reopened, Surveyed}
 use Rattle.replaying.specs.declared.call.Call.{Call}
-use Rattle.scripts.specs.Words.{call_words, answer_words}
+use Rattle.replaying.specs.Words.{call_words, answer_words}
 
 -- whether a begin, an end or a loss was accepted
 abbrev pub is_begun : Answer → Bool
-is_begun (Begun _) = true
-is_begun Ended = false
-is_begun Lost = false
-is_begun Closed = false
-is_begun Reopened = false
-is_begun (Surveyed _) = false
-is_begun (Refused _) = false
+is_begun (Ok (Begun _)) = true
+is_begun (Ok Ended) = false
+is_begun (Ok Lost) = false
+is_begun (Ok Closed) = false
+is_begun (Ok Reopened) = false
+is_begun (Ok (Surveyed _)) = false
+is_begun (Err _) = false
 
 abbrev pub is_ended : Answer → Bool
-is_ended (Begun _) = false
-is_ended Ended = true
-is_ended Lost = false
-is_ended Closed = false
-is_ended Reopened = false
-is_ended (Surveyed _) = false
-is_ended (Refused _) = false
+is_ended (Ok (Begun _)) = false
+is_ended (Ok Ended) = true
+is_ended (Ok Lost) = false
+is_ended (Ok Closed) = false
+is_ended (Ok Reopened) = false
+is_ended (Ok (Surveyed _)) = false
+is_ended (Err _) = false
 
 abbrev pub is_lost : Answer → Bool
-is_lost (Begun _) = false
-is_lost Ended = false
-is_lost Lost = true
-is_lost Closed = false
-is_lost Reopened = false
-is_lost (Surveyed _) = false
-is_lost (Refused _) = false
+is_lost (Ok (Begun _)) = false
+is_lost (Ok Ended) = false
+is_lost (Ok Lost) = true
+is_lost (Ok Closed) = false
+is_lost (Ok Reopened) = false
+is_lost (Ok (Surveyed _)) = false
+is_lost (Err _) = false
 
 -- how many answers pass the test
 abbrev pub count : (Answer → Bool) → List Answer → ℕ

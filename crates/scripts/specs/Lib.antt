@@ -1,4 +1,3 @@
-pub mod Words
 pub mod Accounts
 pub mod Lines
 pub mod Scripts

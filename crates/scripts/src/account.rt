@@ -1,102 +1,130 @@
 // The account of a script that was run.
-ghost use Rattle.std.specs.Prelude.{◌≡◌, ◌+◌, ◌≤◌, ◌++◌, length, drop, IfOk, string_bytes};
-ghost use Rattle.scripts.specs.Accounts.{count as counting, is_begun, is_ended, is_lost, counts_words, line_words, lines_words, stop_words, account_words};
+ghost use Rattle.std.specs.Prelude.{◌≡◌, IfOk, Some, drop, string_bytes};
+ghost use Rattle.scripts.specs.Accounts.{count, is_begun, is_ended, is_lost, counts_words, line_words, lines_words, stop_words, account_words};
 
-use crate::words::{answer_text, call_text};
-use replaying::answer::Answer;
+use replaying::answer::{Accepted, Answer};
 use replaying::call::Call;
 use std::alloc::{AllocError, Global};
+use std::fmt;
 use values::words::Written;
 
 // How many begins, ends and losses were accepted.
+#[derive(Drop)]
 struct Counts {
     begins: usize,
     ends: usize,
     losses: usize,
 }
 
-fn counted_in(answers: &[Answer]) -> Counts
-    ensures begins { result.begins ≡ counting is_begun answers.now }
-    ensures ends { result.ends ≡ counting is_ended answers.now }
-    ensures losses { result.losses ≡ counting is_lost answers.now }
-    ensures few { result.begins + result.ends + result.losses ≤ length answers.now }
-{
-    let mut begins = 0;
-    let mut ends = 0;
-    let mut losses = 0;
-    for answer in answers {
-        match answer {
-            Answer::Begun { tick: _ } => begins += 1,
-            Answer::Ended => ends += 1,
-            Answer::Lost => losses += 1,
-            _ => {}
+impl Counts {
+    fn of(answers: &[Answer]) -> Counts
+        ensures begins { result.begins ≡ count is_begun answers.now }
+        ensures ends { result.ends ≡ count is_ended answers.now }
+        ensures losses { result.losses ≡ count is_lost answers.now }
+    {
+        Counts {
+            begins: begins_in(answers),
+            ends: ends_in(answers),
+            losses: losses_in(answers),
         }
     }
-    Counts {
-        begins,
-        ends,
-        losses,
-    }
+}
+
+fn begins_in(answers: &[Answer]) -> usize
+    ensures { result ≡ count is_begun answers.now }
+{
+    answers
+        .iter()
+        .filter(|answer| matches!(answer, Ok(Accepted::Begun { tick: _ })))
+        .count()
+}
+
+fn ends_in(answers: &[Answer]) -> usize
+    ensures { result ≡ count is_ended answers.now }
+{
+    answers
+        .iter()
+        .filter(|answer| matches!(answer, Ok(Accepted::Ended)))
+        .count()
+}
+
+fn losses_in(answers: &[Answer]) -> usize
+    ensures { result ≡ count is_lost answers.now }
+{
+    answers
+        .iter()
+        .filter(|answer| matches!(answer, Ok(Accepted::Lost)))
+        .count()
 }
 
 // The counts, and how many operations wait.
-fn counts_text(heap: Global, answers: &[Answer]) -> Result<String, AllocError>
-    ensures { IfOk result (λ text. string_bytes text ≡ counts_words (counting is_begun answers.now) (counting is_ended answers.now) (counting is_lost answers.now)) }
-{
-    let Counts {
-        begins,
-        ends,
-        losses,
-    } = counted_in(answers);
-    let waiting = begins.saturating_sub(ends + losses);
-    format!(in heap; "begins {begins} ends {ends} losses {losses} waiting {waiting}")
+impl fmt::Display for Counts {
+    ghost output = { λ counts. Some (counts_words counts.begins counts.ends counts.losses) };
+
+    fn fmt<W: fmt::Write>(&self, f: &mut fmt::Formatter<W>) -> fmt::Result {
+        let begins = self.begins;
+        let ends = self.ends;
+        let losses = self.losses;
+        let waiting = begins.saturating_sub(ends).saturating_sub(losses);
+        write!(
+            f,
+            "begins {begins} ends {ends} losses {losses} waiting {waiting}"
+        )
+    }
 }
 
 // A call with its answer.
-fn line_text<V: Written>(
-    heap: Global,
-    call: &Call<V>,
-    answer: &Answer,
-) -> Result<String, AllocError>
-    ensures { IfOk result (λ text. string_bytes text ≡ line_words V.Written.words call.now answer.now) }
-{
-    let call = call_text(heap, call)?;
-    let answer = answer_text(heap, answer)?;
-    format!(in heap; "{call}: {answer}\n")
+#[derive(Drop)]
+struct Made<'a, V> {
+    call: &'a Call<V>,
+    answer: &'a Answer,
+}
+
+impl<'a, V: Written> fmt::Display for Made<'a, V> {
+    ghost output = { λ made. Some (line_words V.Written.words made.call.now made.answer.now) };
+
+    fn fmt<W: fmt::Write>(&self, f: &mut fmt::Formatter<W>) -> fmt::Result {
+        let call = self.call;
+        match self.answer {
+            Ok(accepted) => write!(f, "{call}: {accepted}\n"),
+            Err(refusal) => write!(f, "{call}: {refusal}\n"),
+        }
+    }
 }
 
 // Every call that was made, with its answer.
-fn lines_text<V: Written>(
-    heap: Global,
-    calls: &[Call<V>],
-    answers: &[Answer],
-) -> Result<String, AllocError>
-    ensures { IfOk result (λ text. string_bytes text ≡ lines_words V.Written.words calls.now answers.now) }
-{
-    let mut text = String::new(heap);
-    for (place, answer) in answers.iter().enumerate() {
-        if let Some(call) = calls.get(place) {
-            let line = line_text(heap, call, answer)?;
-            text.push_str(line.as_str())?;
-        }
-    }
-    Ok(text)
+#[derive(Drop)]
+struct Lines<'a, V> {
+    calls: &'a [Call<V>],
+    answers: &'a [Answer],
 }
 
-// The call at which the script stopped, if it did.
-fn stop_text<V: Written>(
-    heap: Global,
-    calls: &[Call<V>],
-    answered: usize,
-) -> Result<String, AllocError>
-    ensures { IfOk result (λ text. string_bytes text ≡ stop_words V.Written.words (drop answered calls.now)) }
-{
-    match calls.get(answered) {
-        Some(call) => {
-            let call = call_text(heap, call)?;
-            format!(in heap; "stopped at {call}\n")
+impl<'a, V: Written> fmt::Display for Lines<'a, V> {
+    ghost output = { λ lines. Some (lines_words V.Written.words lines.calls.now lines.answers.now) };
+
+    fn fmt<W: fmt::Write>(&self, f: &mut fmt::Formatter<W>) -> fmt::Result {
+        for (call, answer) in self.calls.iter().zip(self.answers) {
+            let made = Made { call, answer };
+            write!(f, "{made}")?;
         }
-        None => Ok(String::new(heap)),
+        Ok(())
+    }
+}
+
+// The calls that were not made: the script stopped at the first, if there is one.
+#[derive(Drop)]
+struct Unmade<'a, V> {
+    calls: &'a [Call<V>],
+}
+
+impl<'a, V: Written> fmt::Display for Unmade<'a, V> {
+    ghost output = { λ unmade. Some (stop_words V.Written.words unmade.calls.now) };
+
+    fn fmt<W: fmt::Write>(&self, f: &mut fmt::Formatter<W>) -> fmt::Result {
+        match self.calls.first() {
+            Some(call) => write!(f, "stopped at {call}\n"),
+            None => Ok(()),
+        }
     }
 }
 
@@ -108,8 +136,10 @@ pub fn account<V: Written>(
 ) -> Result<String, AllocError>
     ensures { IfOk result (λ text. string_bytes text ≡ account_words V.Written.words calls.now answers.now) }
 {
-    let lines = lines_text(heap, calls, answers)?;
-    let stop = stop_text(heap, calls, answers.len())?;
-    let counts = counts_text(heap, answers)?;
-    format!(in heap; "{lines}{stop}{counts}")
+    let lines = Lines { calls, answers };
+    let unmade = Unmade {
+        calls: calls.get(answers.len()..).unwrap_or_default(),
+    };
+    let counts = Counts::of(answers);
+    format!(in heap; "{lines}{unmade}{counts}")
 }

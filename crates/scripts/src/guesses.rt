@@ -1,18 +1,15 @@
 // Guesses at what a line says. A guess is held against the line afterwards, so it may be wrong.
 use crate::line::Line;
 use crate::unread::Unread;
+use logs::ticket_name::TicketName;
 use operations::row::Sort;
 use replaying::call::Call;
-use replaying::ticket_name::TicketName;
 use std::alloc::Global;
 use values::kind::Kind;
 use values::serial::Serial;
 
 fn number(word: &str) -> Result<u32, Unread> {
-    match word.parse::<u32>() {
-        Ok(number) => Ok(number),
-        Err(_) => Err(Unread::NotUnderstood),
-    }
+    word.parse().map_err(|_| Unread::NotUnderstood)
 }
 
 fn numbers(heap: Global, words: &[&str]) -> Result<Vec<u32>, Unread> {

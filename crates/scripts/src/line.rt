@@ -5,8 +5,6 @@ use values::serial::Serial;
 // What a line says.
 #[derive(Drop)]
 pub enum Line {
-    // Nothing: it is blank or a remark.
-    PassedOver,
     // The tick to open the log at.
     Open { first: u32 },
     // How many entries the storage is to have.

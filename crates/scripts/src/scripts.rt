@@ -30,11 +30,13 @@ impl Script {
         ensures { Reads self.old text.now self.new result }
     {
         match read_line(heap, text)? {
-            Line::PassedOver => {}
-            Line::Open { first } if self.calls.is_empty() => self.first = first,
-            Line::Storage { entries } if self.calls.is_empty() => self.entries = entries,
-            Line::Open { first: _ } | Line::Storage { entries: _ } => return Err(Unread::Late),
-            Line::Call(call) => self.calls.push(call)?,
+            None => {}
+            Some(Line::Open { first }) if self.calls.is_empty() => self.first = first,
+            Some(Line::Storage { entries }) if self.calls.is_empty() => self.entries = entries,
+            Some(Line::Open { first: _ } | Line::Storage { entries: _ }) => {
+                return Err(Unread::Late);
+            }
+            Some(Line::Call(call)) => self.calls.push(call)?,
         }
         Ok(())
     }

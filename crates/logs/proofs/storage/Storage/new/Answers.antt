@@ -8,7 +8,7 @@ use Rattle.logs.proofs.storage.Storage.new.Goals as goal
 pub invariant_of-result : goal.invariant_of-result
 invariant_of-result g c = record { wide = refl; held = fresh_held 64 1; valid = fresh_rows _ _ c.new.ensures.empty; counted = refl; room = omega arith; ticks = omega arith }
 
-pub returns : goal.returns
-returns g c =
+pub returns-clause-life : goal.returns-clause-life
+returns-clause-life g c =
     let e : _ ≡ opened_at 1 (length c.args.rows.now) = search rules in
-    record { fresh = e; life = opened_leads any_answer _ 1 (length c.args.rows.now) refl e }
+    opened_leads any_answer _ 1 (length c.args.rows.now) refl e
