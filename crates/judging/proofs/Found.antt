@@ -11,6 +11,7 @@ use Rattle.gathering.specs.declared.bay.Bay.{Bay}
 use Rattle.gathering.specs.declared.faults.Fault.{Fault}
 use Rattle.gathering.proofs.Spared.{refused_fault, spared_faults, spared_judgeable}
 use Rattle.lists.specs.Lists.{listed}
+use Rattle.gathering.specs.Spans.{spans}
 use Rattle.operations.specs.Checks.{first_failed}
 use Rattle.operations.specs.Refusals.{refusal}
 use Rattle.operations.specs.declared.refusal.Layer.TheVariants.{Judge}
@@ -32,7 +33,7 @@ rows_many ops b limit h = inl (cond-false _ (first_failed (value_checks ops (of_
 module _ (ops : List Operation) (b : ℕ) (bay : Bay) (gathered : Gathered ops b bay) (limit : ℕ) where
   -- a gathered bay has no more writes than it may have
   few : first_failed (bay_checks ops b) ≡ first_failed (value_checks ops (of_bay b) Judge)
-  few = cond-true _ (first_failed (value_checks ops (of_bay b) Judge)) (Some (refusal 12 b Judge)) (le-leb (write_count ops b) 64 (omega (arith, gathered.writes.few, length-map (listed bay.writes) (λ w. w.place), ap length gathered.writes.ranked, places_count ops b)))
+  few = cond-true _ (first_failed (value_checks ops (of_bay b) Judge)) (Some (refusal 12 b Judge)) (le-leb (write_count ops b) 64 (omega (arith, gathered.writes.few, length-map (spans (listed bay.writes)) (λ w. w.place), ap length gathered.writes.ranked, places_count ops b)))
 
   -- one with a fault
   pub rows_faulty : (e : Fault) (r : JudgeRefusal) → Refuses bay.faults e → judge_refusal r ≡ fault_refusal Judge e → RowsJudged ops b limit (Err r)

@@ -11,6 +11,5 @@ pub mod storage;
 pub mod surveys;
 pub mod ticket;
 pub mod ticket_name;
-pub mod view;
 pub mod views;
 pub mod words;

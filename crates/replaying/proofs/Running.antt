@@ -1,13 +1,13 @@
 -- A script run call by call. Assumes nothing.
-use Rattle.std.proofs.Common.{◌≡◌, ℕ, ◌+◌, ◌<◌, ◌≤◌, Bool, true, List, [], ◌∷◌, ◌++◌, map, reverse, length, get_or, take, sym, refl, ap, ◌∙◌, subst, arith, length-append}
+use Rattle.std.proofs.Common.{◌≡◌, ℕ, ◌+◌, ◌<◌, ◌≤◌, Bool, true, List, [], ◌∷◌, ◌++◌, map, reverse, length, get_or, take, None, sym, refl, ap, ◌∙◌, subst, arith, length-append}
 use mathlib.Core.List.{reverse-cons}
-use Rattle.std.proofs.lemmas.List.{take_more, map-append}
+use Rattle.std.proofs.lemmas.List.{take_more, map-append, get_or_default}
 use Rattle.lives.specs.Calls.{call_of}
 use Rattle.lives.specs.Life.{SurveyRuleOf, any_answer}
 use Rattle.lives.proofs.Law.{lives_lawful}
 use Rattle.logs.specs.Stands.{Leads}
 use Rattle.logs.specs.States.{State, opened_at}
-use Rattle.replaying.specs.Runs.{possible, Goes, Reached, Ran, Transcript}
+use Rattle.replaying.specs.Runs.{possible, Goes, Steps, Reached, Ran, Transcript}
 use Rattle.replaying.specs.Scripts.{Answer, meant, answer_of}
 use Rattle.replaying.specs.declared.call.Call.{Call}
 
@@ -42,6 +42,13 @@ module _ {V : Type 0} (rule : SurveyRuleOf V) (first entries : ℕ) (script : Li
   -- the script is at its end
   pub ran_all : (s : State V) (phase : Bool) (answers : List Answer) → length script ≤ length answers → Reached rule first entries script answers s phase → Ran rule first entries script answers s phase
   ran_all s phase answers done so = record { reached = so; halts = λ d within. absurd (omega arith) }
+
+  -- its next call is not possible
+  pub ran_on : (s t : State V) (before after : Bool) (call : Call V) (answers : List Answer) → length answers < length script → call ≡ get_or script (length answers) call → Steps rule before after s t call None → Reached rule first entries script answers s before → Ran rule first entries script answers t after
+  ran_on s t before after call answers within at stays so = record {
+    reached = record { events = so.events; calls = so.calls; told = so.told; phase = so.phase ∙ sym stays.2; leads = subst (λ x. Leads rule first entries so.events x) (sym stays.1) so.leads };
+    halts = λ d _. (λ i. possible (stays.2 i) (get_or_default script (length answers) d call within i)) ∙ (ap (possible before) (sym at) ∙ stays.0);
+  }
 
   pub transcript : (s : State V) (phase : Bool) (answers : List Answer) → Ran rule first entries script answers s phase → Transcript rule first entries script answers s
   transcript s phase answers ran =

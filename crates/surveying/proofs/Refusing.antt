@@ -7,7 +7,7 @@ use Rattle.gathering.specs.Gathering.{Gathered}
 use Rattle.gathering.specs.declared.faults.Fault.{Fault}
 use Rattle.gathering.specs.declared.bay.Bay.{Bay}
 use Rattle.gathering.specs.declared.faults.Faults.{Faults}
-use Rattle.gathering.specs.Spans.{Span}
+use Rattle.gathering.specs.Spans.{Span, spans}
 use Rattle.gathering.proofs.Spared.{refused_fault, spared_faults}
 use Rattle.lists.specs.Lists.{listed}
 use Rattle.operations.specs.Rows.{AllValid}
@@ -35,7 +35,7 @@ told_inside m rows v p h = omega (arith, crane_is, told_bays m rows v p h)
 module _ (ops : List Operation) (b : ℕ) (bay : Bay) (gathered : Gathered ops b bay) where
   -- a gathered bay has few writes,
   pub gathered_few : write_count ops b ≤ 64
-  gathered_few = omega (arith, gathered.writes.few, ap length gathered.writes.ranked, length-map (listed bay.writes) (λ (w : Span). w.place), places_count ops b)
+  gathered_few = omega (arith, gathered.writes.few, ap length gathered.writes.ranked, length-map (spans (listed bay.writes)) (λ (w : Span). w.place), places_count ops b)
 
   -- and its faults are those of its operations
   pub gathered_faults : FaultsOf ops (of_bay b) bay.faults

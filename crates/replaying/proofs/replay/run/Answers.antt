@@ -2,7 +2,7 @@ use Rattle.std.proofs.Common.{◌≡◌, length, get_or, vec_items, sym, ap, ◌
 use Rattle.logs.specs.States.{state_of}
 use Rattle.replaying.specs.Runs.{Reached, Steps, records}
 use Rattle.replaying.specs.Surveys.{survey_rule}
-use Rattle.replaying.proofs.Running.{reached_none, reached_more, ran_all}
+use Rattle.replaying.proofs.Running.{reached_none, reached_more, ran_on, ran_all}
 use Rattle.replaying.proofs.replay.run.Goals as goal
 
 pub loop-call-init : goal.loop-call-init
@@ -39,6 +39,20 @@ loop-call-preserved g c =
           reached_more rule first entries script s t before after call c.in-Some.answer (vec_items was) (vec_items c.push_reserved.new.self) pushed.items
           (omega (arith, index, c.loop-call-test.true)) (c.call-item.is ∙ ap (λ n. get_or script n call) index) goes (c.loop-call.invariant.3 first entries led recording),
     )
+
+pub returns-in_default-clause-ran : goal.returns-in_default-clause-ran
+returns-in_default-clause-ran g c first entries led recording =
+    let rule = survey_rule g.V.Kind.meaning in
+    let script = c.args.script.now in
+    let was = c.loop-call.answers in
+    let s = state_of c.loop-call.storage in
+    let t = state_of c.step-next.new.storage in
+    let before = records c.loop-call.log in
+    let after = records c.step-next.result.log in
+    let call = c.call-item.result in
+    let index : c.loop-call.call-index ≡ length (vec_items was) = omega (arith, was.ok.0, c.loop-call.invariant.2) in
+    let stays = subst (λ answer. Steps rule before after s t call answer) c.in_default.is c.step-next.ensures in
+    ran_on rule first entries script s t before after call (vec_items was) (omega (arith, index, c.loop-call-test.true)) (c.call-item.is ∙ ap (λ n. get_or script n call) index) stays (c.loop-call.invariant.3 first entries led recording)
 
 pub returns : goal.returns
 returns g c =
