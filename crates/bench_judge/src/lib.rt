@@ -30,19 +30,10 @@ fn judgment_of(
 ) -> Option<Judgment>
     ensures { TableJudged table.now bay limit sheet.old sheet.new result }
 {
-    let Ok(rows) = Room::new(heap) else {
-        return None;
-    };
-    let Ok(mut working) = Room::new(heap) else {
-        return None;
-    };
-    let Ok(opened) = Table::<Serial>::open(rows, table) else {
-        return None;
-    };
-    match judge(&opened, bay, limit, sheet, &mut working) {
-        Ok(judgment) => Some(judgment),
-        Err(_) => None,
-    }
+    let rows = Room::new(heap).ok()?;
+    let mut working = Room::new(heap).ok()?;
+    let opened = Table::<Serial>::open(rows, table).ok()?;
+    judge(&opened, bay, limit, sheet, &mut working).ok()
 }
 
 // Judges the bay; the sheet gets its value order, or is left where nothing is reported.

@@ -9,19 +9,12 @@ use std::fs::File;
 use std::io;
 use std::io::{ErrorKind, Read};
 
-// The first bytes of an open file, as far as `most`. A file may have no end, so there are no more turns than bytes wanted.
-fn beginning(heap: Global, file: &mut File, most: usize) -> io::Result<Vec<u8>>
+// The first bytes of an open file, as far as `most`. A file may have no end, so no more is read; the cut is for the contract.
+fn beginning(heap: Global, file: File, most: usize) -> io::Result<Vec<u8>>
     ensures { IfOk result (λ bytes. vec_len bytes ≤ most) }
 {
     let mut bytes = Vec::new(heap);
-    for _ in 0..most {
-        let mut chunk = [0u8; 512];
-        let count = file.read(&mut chunk)?;
-        if count == 0 || bytes.len() >= most {
-            break;
-        }
-        bytes.extend_from_slice(&chunk[0..count])?;
-    }
+    file.take(most as u64).read_to_end(&mut bytes)?;
     bytes.truncate(most);
     Ok(bytes)
 }
@@ -31,13 +24,8 @@ pub fn contents(rt: &HostRuntime, name: &str, most: usize) -> io::Result<Option<
     ensures { IfOk result (AtMost most) }
 {
     match File::open(rt, name) {
-        Ok(mut file) => Ok(Some(beginning(rt.alloc(), &mut file, most)?)),
-        Err(failure) => {
-            if failure.kind() == ErrorKind::NotFound {
-                Ok(None)
-            } else {
-                Err(failure)
-            }
-        }
+        Ok(file) => Ok(Some(beginning(rt.alloc(), file, most)?)),
+        Err(failure) if failure.kind() == ErrorKind::NotFound => Ok(None),
+        Err(failure) => Err(failure),
     }
 }
