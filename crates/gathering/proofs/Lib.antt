@@ -4,4 +4,5 @@ mod Wrote
 mod Spanned
 mod Seen
 mod Noted
+pub mod Keeping
 pub mod Spared

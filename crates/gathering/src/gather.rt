@@ -1,9 +1,10 @@
 // Gathering one bay from rows.
-ghost use Rattle.std.specs.Prelude.{◌≡◌, ◌<◌, [], length, MatchResult};
+ghost use Rattle.std.specs.Prelude.{◌≡◌, ◌<◌, [], length, MatchResult, OnOk, IfOk};
 ghost use Rattle.bays.specs.Faults.{Lowest, faulty, written_twice};
 ghost use Rattle.lists.specs.Lists.{listed};
 ghost use Rattle.orders.specs.Orders.{of_bay, write_count};
 ghost use Rattle.relations.specs.Meanings.{told};
+ghost use Rattle.gathering.specs.Kept.{AllKept};
 ghost use Rattle.gathering.specs.Spans.{spans};
 ghost use Rattle.gathering.specs.Gathering.{ReadsUpTo, noted, Wrote, Seen, Gathered};
 
@@ -45,10 +46,11 @@ fn gather_writes<V: Kind>(
     writes: &mut ArrayList<Write, MOST_WRITES>,
 ) -> Result<Option<usize>, TooManyWrites>
     requires { listed writes.old ≡ [] }
-    ensures { MatchResult result
+    ensures wrote { MatchResult result
         (λ twice. Wrote (told V.Kind.meaning rows.now) number (length rows.now) (spans (listed writes.new))
         × Lowest (length rows.now) (faulty (of_bay number) written_twice (told V.Kind.meaning rows.now)) twice)
         (λ _. 64 < write_count (told V.Kind.meaning rows.now) number) }
+    ensures kept { OnOk result (AllKept rows.now (listed writes.new)) }
 {
     let mut twice = None;
     for (place, row) in rows.iter().enumerate() {
@@ -68,8 +70,9 @@ fn gather_reads<V: Kind>(
     writes: &mut ArrayList<Write, MOST_WRITES>,
 ) -> Reads
     requires { Seen (told V.Kind.meaning rows.now) number 0 (spans (listed writes.old)) }
-    ensures { Seen (told V.Kind.meaning rows.now) number (length rows.now) (spans (listed writes.new))
+    ensures seen { Seen (told V.Kind.meaning rows.now) number (length rows.now) (spans (listed writes.new))
         × ReadsUpTo (told V.Kind.meaning rows.now) number (length rows.now) result }
+    ensures kept { AllKept rows.now (listed writes.old) → AllKept rows.now (listed writes.new) }
 {
     let mut reads = Reads::default();
     for (place, row) in rows.iter().enumerate() {
@@ -83,9 +86,10 @@ fn gather_reads<V: Kind>(
 impl Bay {
     // The bay of this number, gathered in two passes over the rows.
     pub fn gather<V: Kind>(rows: &[Row<V>], number: u8) -> Result<Bay, TooManyWrites>
-        ensures { MatchResult result
+        ensures gathered { MatchResult result
             (Gathered (told V.Kind.meaning rows.now) number)
             (λ _. 64 < write_count (told V.Kind.meaning rows.now) number) }
+        ensures kept { IfOk result (λ bay. AllKept rows.now (listed bay.writes)) }
     {
         let mut writes = ArrayList::new();
         let written_twice = gather_writes(rows, number, &mut writes)?;

@@ -1,9 +1,11 @@
 // The writes of a bay, one operation after another.
-ghost use Rattle.std.specs.Prelude.{◌≡◌, ◌<◌, length};
+ghost use Rattle.std.specs.Prelude.{◌≡◌, ◌<◌, length, OnOk};
 ghost use Rattle.orders.specs.Orders.{at};
 ghost use Rattle.bays.specs.Faults.{Lowest};
 ghost use Rattle.lists.specs.Lists.{listed};
 ghost use Rattle.relations.specs.Meanings.{meant, told};
+ghost use Rattle.operations.specs.Rows.{without_value};
+ghost use Rattle.gathering.specs.Kept.{later_read, shortened_by, AllKept};
 ghost use Rattle.gathering.specs.Spans.{started, span, spans};
 ghost use Rattle.gathering.specs.Writes.{same_value, later, read_by, PlacesBelow, WriteAdded, ReadAdded};
 
@@ -17,7 +19,8 @@ use values::kind::Kind;
 impl Write {
     // The write as one more read leaves it.
     fn read_by<V: Kind>(self, read: &Row<V>) -> Write
-        ensures { span result ≡ read_by (span self) (meant V.Kind.meaning read.now) }
+        ensures span { span result ≡ read_by (span self) (meant V.Kind.meaning read.now) }
+        ensures whole { result ≡ shortened_by self (without_value read.now) }
     {
         let read = read.without_value();
         Write {
@@ -30,7 +33,8 @@ impl Write {
 
 // Of a read and one that may be held, the one that starts later.
 fn later(held: Option<Row<()>>, read: Row<()>) -> Row<()>
-    ensures { result.start ≡ later (started held) read.start }
+    ensures start { result.start ≡ later (started held) read.start }
+    ensures whole { result ≡ later_read held read }
 {
     match held {
         Some(last) if read.start <= last.start => last,
@@ -58,7 +62,8 @@ pub(crate) fn add_write<V: Kind>(
     place: usize,
 ) -> Result<bool, TooManyWrites>
     requires { (PlacesBelow (length rows.now) (spans (listed writes.old))) × (place < length rows.now) }
-    ensures { WriteAdded (told V.Kind.meaning rows.now) (spans (listed writes.old)) place (spans (listed writes.new)) result }
+    ensures added { WriteAdded (told V.Kind.meaning rows.now) (spans (listed writes.old)) place (spans (listed writes.new)) result }
+    ensures kept { OnOk result (AllKept rows.now (listed writes.old) → AllKept rows.now (listed writes.new)) }
 {
     let twice = rank_of(rows, writes.as_slice(), place).is_some();
     let write = Write {
@@ -66,7 +71,9 @@ pub(crate) fn add_write<V: Kind>(
         row: rows[place].without_value(),
         last_read: None,
     };
-    writes.push(write).map_err(|_| TooManyWrites)?;
+    let Ok(()) = writes.push(write) else {
+        return Err(TooManyWrites);
+    };
     Ok(twice)
 }
 
@@ -77,7 +84,8 @@ pub(crate) fn add_read<V: Kind>(
     place: usize,
 ) -> Option<bool>
     requires { (PlacesBelow (length rows.now) (spans (listed writes.old))) × (place < length rows.now) }
-    ensures { ReadAdded (told V.Kind.meaning rows.now) (spans (listed writes.old)) place (spans (listed writes.new)) result }
+    ensures added { ReadAdded (told V.Kind.meaning rows.now) (spans (listed writes.old)) place (spans (listed writes.new)) result }
+    ensures kept { AllKept rows.now (listed writes.old) → AllKept rows.now (listed writes.new) }
 {
     let rank = rank_of(rows, writes.as_slice(), place)?;
     let read = &rows[place];

@@ -3,6 +3,7 @@ use Rattle.lists.specs.Lists.{listed}
 use Rattle.orders.specs.Orders.{of_bay}
 use Rattle.relations.specs.Meanings.{told}
 use Rattle.relations.proofs.Told.{told_at, told_length}
+use Rattle.gathering.specs.Kept.{AllKept}
 use Rattle.gathering.specs.Spans.{spans}
 use Rattle.gathering.specs.Gathering.{Seen, ReadsUpTo}
 use Rattle.gathering.proofs.Seen.{seen_below}
@@ -16,7 +17,7 @@ add_read-requires g c =
     (λ i h. omega (arith, seen_below ops c.args.number c.loop-place.place (spans (listed c.loop-place.writes)) c.loop-place.invariant.0 i h, told_length g.V.Kind.meaning c.args.rows.now), c.loop-place-test.true)
 
 pub loop-place-init : goal.loop-place-init
-loop-place-init g c = (c.requires, noted_nothing (told g.V.Kind.meaning c.args.rows.now) c.args.number c.default-reads.result c.default-reads.ensures)
+loop-place-init g c = (c.requires, noted_nothing (told g.V.Kind.meaning c.args.rows.now) c.args.number c.default-reads.result c.default-reads.ensures, λ all. all)
 
 pub loop-place-preserved : goal.loop-place-preserved
 loop-place-preserved g c =
@@ -31,11 +32,11 @@ loop-place-preserved g c =
     let here = ap (λ o. of_bay b o && not o.write) (told_at m rows n row c.loop-place-test.true c.index-rows-place.is) in
     elim c.if-reads_in.branch [
       | then-reads_in w ↦
-          let step = read_step ops b n within c.loop-place.reads c.loop-place.invariant.1 ws c.loop-place.invariant.0 (here ∙ sym c.reads_in.ensures ∙ w.if-reads_in.true) _ w.add_read.result w.add_read.ensures in
-          (subst (λ r. Seen ops b (n + 1) (spans (listed r))) (sym w.writes-is) step.0, subst (ReadsUpTo ops b (n + 1)) (sym (w.reads-is ∙ w.with-reads.ensures)) step.1)
+          let step = read_step ops b n within c.loop-place.reads c.loop-place.invariant.1 ws c.loop-place.invariant.0 (here ∙ sym c.reads_in.ensures ∙ w.if-reads_in.true) _ w.add_read.result w.add_read.ensures.added in
+          (subst (λ r. Seen ops b (n + 1) (spans (listed r))) (sym w.writes-is) step.0, subst (ReadsUpTo ops b (n + 1)) (sym (w.reads-is ∙ w.with-reads.ensures)) step.1, λ all. subst (λ r. AllKept rows (listed r)) (sym w.writes-is) (w.add_read.ensures.kept (c.loop-place.invariant.2 all)))
       | else-reads_in w ↦
           let step = other_step ops b n within c.loop-place.reads c.loop-place.invariant.1 ws c.loop-place.invariant.0 (here ∙ sym c.reads_in.ensures ∙ w.if-reads_in.false) in
-          (subst (λ r. Seen ops b (n + 1) (spans (listed r))) (sym w.writes-is) step.0, subst (ReadsUpTo ops b (n + 1)) (sym w.reads-is) step.1)
+          (subst (λ r. Seen ops b (n + 1) (spans (listed r))) (sym w.writes-is) step.0, subst (ReadsUpTo ops b (n + 1)) (sym w.reads-is) step.1, λ all. subst (λ r. AllKept rows (listed r)) (sym w.writes-is) (c.loop-place.invariant.2 all))
     ]
 
 pub returns : goal.returns
@@ -43,4 +44,7 @@ returns g c =
     let m = g.V.Kind.meaning in
     let rows = c.args.rows.now in
     let ended : c.loop-place.place ≡ length rows = omega arith in
-    (subst (λ n. Seen (told m rows) c.args.number n (spans (listed c.loop-place.writes))) ended c.loop-place.invariant.0, subst (λ n. ReadsUpTo (told m rows) c.args.number n c.loop-place.reads) ended c.loop-place.invariant.1)
+    record {
+      seen = (subst (λ n. Seen (told m rows) c.args.number n (spans (listed c.loop-place.writes))) ended c.loop-place.invariant.0, subst (λ n. ReadsUpTo (told m rows) c.args.number n c.loop-place.reads) ended c.loop-place.invariant.1);
+      kept = c.loop-place.invariant.2;
+    }

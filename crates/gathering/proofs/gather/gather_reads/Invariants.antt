@@ -1,5 +1,6 @@
 use Rattle.lists.specs.Lists.{listed}
 use Rattle.relations.specs.Meanings.{told}
+use Rattle.gathering.specs.Kept.{AllKept}
 use Rattle.gathering.specs.Spans.{spans}
 use Rattle.gathering.specs.Gathering.{Seen, ReadsUpTo}
 use Rattle.gathering.proofs.gather.gather_reads.Given as goal
@@ -8,3 +9,4 @@ abbrev pub invariant-loop-place : goal.invariant-loop-place
 invariant-loop-place g l =
     Seen (told g.V.Kind.meaning l.rows) l.number l.place (spans (listed l.writes))
     × ReadsUpTo (told g.V.Kind.meaning l.rows) l.number l.place l.reads
+    × (AllKept l.rows (listed l.initial.writes) → AllKept l.rows (listed l.writes))

@@ -1,4 +1,4 @@
-use Rattle.std.proofs.Common.{◌≡◌, ◌<◌, length, get_or, set, ltb, Some, None, sym, ap, ◌∙◌, subst, arith}
+use Rattle.std.proofs.Common.{◌≡◌, length, get_or, set, ltb, Some, None, refl, sym, ap, ◌∙◌, subst, arith}
 use Rattle.std.proofs.lemmas.List.{get_or-map, length-map, map-set}
 use Rattle.bays.specs.Faults.{Lowest}
 use Rattle.orders.specs.Orders.{at}
@@ -8,14 +8,17 @@ use Rattle.relations.specs.Meanings.{meant, told}
 use Rattle.relations.proofs.Told.{told_at}
 use Rattle.gathering.specs.Spans.{span, spans}
 use Rattle.gathering.specs.Writes.{same_value, read_by}
+use Rattle.operations.specs.Rows.{without_value}
+use Rattle.gathering.specs.Kept.{RowOf, AllKept}
+use Rattle.gathering.proofs.Keeping.{kept_set}
 use Rattle.gathering.specs.declared.write.Write.{Write}
 use Rattle.gathering.proofs.writes.add_read.Goals as goal
 
 abbrev blank : Write
 blank = record { place = 0; row = record { sort = Read; bay = 0; cabinet = 0; value = tt; start = 0; finish = 0 }; last_read = None }
 
-pub returns : goal.returns
-returns g c =
+pub returns-clause-added : goal.returns-clause-added
+returns-clause-added g c =
     let m = g.V.Kind.meaning in
     let ops = told m c.args.rows.now in
     let ws = listed c.args.writes.now in
@@ -25,7 +28,7 @@ returns g c =
     let same : w ≡ get_or ws rank blank = ap (λ xs. get_or xs rank blank) c.as_slice-2.ensures.value in
     let there : at ops c.args.place ≡ meant m read = told_at m c.args.rows.now c.args.place read c.requires.1 c.index-rows-place.is in
     let low = subst (λ xs. Lowest (length xs) (same_value ops (spans xs) c.args.place) (Some rank)) c.as_slice.ensures.value c.in_ok-rank.ensures in
-    let left : span c.read_by.result ≡ read_by (span w) (at ops c.args.place) = c.read_by.ensures ∙ ap (read_by (span w)) (sym there) in (
+    let left : span c.read_by.result ≡ read_by (span w) (at ops c.args.place) = c.read_by.ensures.span ∙ ap (read_by (span w)) (sym there) in (
       rank,
       span w,
       (omega (arith, low.0, length-map ws span), low.1, low.2),
@@ -33,3 +36,14 @@ returns g c =
       c.before-foreseen.ensures.ticks ∙ ap (λ o. ltb o.finish w.row.start) (sym there),
       ap spans c.in-Ok.ensures.1 ∙ map-set span ws rank c.read_by.result ∙ ap (set (spans ws) rank) left,
     )
+
+pub returns-clause-kept : goal.returns-clause-kept
+returns-clause-kept g c kept =
+    let rows = c.args.rows.now in
+    let ws = listed c.args.writes.now in
+    let rank = c.in_ok-rank.rank in
+    let read = c.index-rows-place.result in
+    let w = get_or c.as_slice-2.result.now rank blank in
+    let same : w ≡ get_or ws rank blank = ap (λ xs. get_or xs rank blank) c.as_slice-2.ensures.value in
+    let of : RowOf rows (without_value read) = (c.args.place, c.requires.1, (read, c.index-rows-place.is, refl)) in
+    subst (AllKept rows) (sym (c.in-Ok.ensures.1 ∙ ap (set ws rank) c.read_by.ensures.whole)) (kept_set rows ws rank w blank c.in-Ok.ensures.0 same (without_value read) of kept)

@@ -6,10 +6,10 @@ use Rattle.surveying.proofs.Refusing.{crane_is}
 use Rattle.surveying.proofs.crane.judge_next.Goals as goal
 
 pub unreachable-requires : goal.unreachable-requires
-unreachable-requires g c = omega (arith, c.in_default.ensures, c.requires.1.spared.few c.args.number (omega (arith, crane_is, c.requires.0)))
+unreachable-requires g c = omega (arith, c.in_default.ensures.gathered, c.requires.1.spared.few c.args.number (omega (arith, crane_is, c.requires.0)))
 
 pub returns : goal.returns
 returns g c =
     let ops = told g.V.Kind.meaning c.args.rows.now in
     let ready = judgeable_bay c.args.number (rows_judgeable g.V.Kind.meaning c.args.rows.now c.requires.1) in
-    rw c.or.ensures (bay_told ops c.args.number c.args.left ready c.judge_bay.result (c.judge_bay.ensures ops c.args.number c.in-Ok.ensures ready))
+    rw c.or.ensures (bay_told ops c.args.number c.args.left ready c.judge_bay.result (c.judge_bay.ensures ops c.args.number c.in-Ok.ensures.gathered ready))

@@ -9,7 +9,7 @@ use Rattle.surveying.proofs.sparing.faults.Goals as goal
 pub returns-in_default : goal.returns-in_default
 returns-in_default g c =
     let inside : c.loop-number.number < crane_bays = omega (arith, crane_is) in
-    refuses_12 (told g.V.Kind.meaning c.args.rows.now) c.loop-number.number inside c.loop-number.invariant.0 c.in_default.ensures
+    refuses_12 (told g.V.Kind.meaning c.args.rows.now) c.loop-number.number inside c.loop-number.invariant.0 c.in_default.ensures.gathered
 
 pub loop-number-init : goal.loop-number-init
 loop-number-init g c = (λ b h. absurd (omega arith), faults_none (told g.V.Kind.meaning c.args.rows.now) c.default-found.result c.default-found.ensures)
@@ -18,7 +18,7 @@ pub loop-number-preserved : goal.loop-number-preserved
 loop-number-preserved g c =
     let ops = told g.V.Kind.meaning c.args.rows.now in
     let number = c.loop-number.number in let bay = c.in-Ok.bay in
-    let gathered = c.in-Ok.ensures in (
+    let gathered = c.in-Ok.ensures.gathered in (
       below_more _ _ c.loop-number.invariant.0 (gathered_few ops number bay gathered),
       rw c.join-found.ensures (faults_more ops number c.loop-number.found bay.faults c.loop-number.invariant.1 (gathered_faults ops number bay gathered)),
     )
