@@ -1,18 +1,45 @@
 // Sorts of operation, layers and refusals as text.
-ghost use Rattle.std.specs.Prelude.{Some};
+ghost use Rattle.std.specs.Prelude.{◌≡◌, Some};
 ghost use Rattle.operations.specs.Words.{layer_words, refusal_words, sort_words};
 
 use crate::refusal::{Layer, Refusal};
 use crate::row::Sort;
 use std::fmt;
 
+impl Sort {
+    // The sort's name in a report.
+    pub fn name(&self) -> &'static str
+        ensures { result.now ≡ sort_words self.now }
+    {
+        match self {
+            Sort::Read => "read",
+            Sort::Write => "write",
+        }
+    }
+}
+
 impl fmt::Display for Sort {
     ghost output = { λ sort. Some (sort_words sort) };
 
     fn fmt<W: fmt::Write>(&self, f: &mut fmt::Formatter<W>) -> fmt::Result {
+        f.write_str(self.name())
+    }
+}
+
+impl Layer {
+    // The layer's name in a report.
+    pub fn name(&self) -> &'static str
+        ensures { result.now ≡ layer_words self.now }
+    {
         match self {
-            Sort::Read => f.write_str("read"),
-            Sort::Write => f.write_str("write"),
+            Layer::WordsInTable => "words.table",
+            Layer::WordsInList => "words.list",
+            Layer::Table => "table",
+            Layer::List => "list",
+            Layer::Source => "source",
+            Layer::Judge => "judge",
+            Layer::Survey => "survey",
+            Layer::Log => "log",
         }
     }
 }
@@ -21,16 +48,7 @@ impl fmt::Display for Layer {
     ghost output = { λ layer. Some (layer_words layer) };
 
     fn fmt<W: fmt::Write>(&self, f: &mut fmt::Formatter<W>) -> fmt::Result {
-        match self {
-            Layer::WordsInTable => f.write_str("words.table"),
-            Layer::WordsInList => f.write_str("words.list"),
-            Layer::Table => f.write_str("table"),
-            Layer::List => f.write_str("list"),
-            Layer::Source => f.write_str("source"),
-            Layer::Judge => f.write_str("judge"),
-            Layer::Survey => f.write_str("survey"),
-            Layer::Log => f.write_str("log"),
-        }
+        f.write_str(self.name())
     }
 }
 
