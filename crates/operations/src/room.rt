@@ -1,7 +1,7 @@
 // Memory that is taken before the calls that need it.
 ghost use Rattle.std.specs.Prelude.{◌≤◌, vec_len, vec_capacity};
 
-// A list with room for 512 elements, which is as many as a table, a list of bays or a surveyed source may have. What is handed
+// A list with room for 512 elements, which is as many as a table, a list of bays or a source that is judged or surveyed may have. What is handed
 // one can do its work without wanting memory.
 #[derive(Drop)]
 pub struct Room<T> {
