@@ -91,8 +91,6 @@ pub(crate) fn add_read<V: Kind>(
     let read = &rows[place];
     let write = writes.as_slice()[rank];
     let foreseen = before(read, &write.row);
-    let Ok(()) = writes.set(rank, write.read_by(read)) else {
-        unreachable()
-    };
+    writes.set(rank, write.read_by(read)).unwrap();
     Some(foreseen)
 }

@@ -54,9 +54,7 @@ pub fn judge<S: Source>(
     if operations > MOST_OPERATIONS {
         return Err(JudgeRefusal::TooMany { operations });
     }
-    let Ok(()) = copy(source, room) else {
-        unreachable()
-    };
+    copy(source, room).unwrap();
     let found = judge_rows(room.as_slice(), bay, limit)?;
     fill(sheet, found.places.as_slice());
     Ok(Judgment {

@@ -10,8 +10,6 @@ pub(crate) fn fill(sheet: &mut [usize], order: &[usize])
 {
     let mut entries = BoundedList::new(sheet);
     for place in order {
-        let Ok(()) = entries.push(*place) else {
-            unreachable()
-        };
+        entries.push(*place).unwrap();
     }
 }

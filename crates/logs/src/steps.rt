@@ -138,9 +138,7 @@ impl<'a, V: Copy> Storage<'a, V> {
             start: name.begun,
             finish,
         };
-        let Ok(()) = self.ended.push(row) else {
-            unreachable()
-        };
+        self.ended.push(row).unwrap();
         self.next = finish + 1;
         Ok(())
     }

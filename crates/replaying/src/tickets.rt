@@ -108,9 +108,7 @@ impl Ticket {
     pub(crate) fn use_up(self) {
         let mut rows = [BLANK; 1];
         let mut storage = Storage::new(&mut rows);
-        let Ok(log) = Recording::open(&mut storage, 1) else {
-            unreachable()
-        };
+        let log = Recording::open(&mut storage, 1).unwrap();
         let _ = self.lose(&log, &mut storage);
     }
 }

@@ -19,9 +19,7 @@ fn judge_next<V: Kind>(rows: &[Row<V>], number: u8, left: u32) -> Result<BayOrde
     requires { (number < 64) × (Judging V.Kind.meaning rows.now) }
     ensures { BayFound (told V.Kind.meaning rows.now) number left result }
 {
-    let Ok(bay) = Bay::gather(rows, number) else {
-        unreachable()
-    };
+    let bay = Bay::gather(rows, number).unwrap();
     judge_bay(&bay, left).or(Err(SurveyRefusal::OverLimit { bay: number }))
 }
 

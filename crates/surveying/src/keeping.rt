@@ -31,9 +31,7 @@ impl Kept {
             age: found.age,
             writes: found.places.len(),
         };
-        let Ok(()) = self.findings.push(finding) else {
-            unreachable()
-        };
+        self.findings.push(finding).unwrap();
         extend(&mut self.orders, found.places.as_slice());
     }
 }
@@ -44,8 +42,6 @@ fn extend(orders: &mut Room<usize>, places: &[usize])
     ensures { held orders.new ≡ held orders.old ++ places.now }
 {
     for place in places {
-        let Ok(()) = orders.push(*place) else {
-            unreachable()
-        };
+        orders.push(*place).unwrap();
     }
 }

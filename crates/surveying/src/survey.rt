@@ -32,9 +32,7 @@ pub fn survey<S: Source>(
     if operations > MOST_OPERATIONS {
         return Err(SurveyRefusal::TooMany { operations });
     }
-    let Ok(()) = copy(source, &mut desk.rows) else {
-        unreachable()
-    };
+    copy(source, &mut desk.rows).unwrap();
     spare(desk.rows.as_slice())?;
     judge_bays(desk.rows.as_slice(), limit, &mut desk.kept)
 }

@@ -21,9 +21,7 @@ pub fn open_list(mut bays: Room<u32>, bytes: &[u8]) -> Result<Room<u32>, ListRef
     bays.clear();
     let mut words = WordReader::new(bytes);
     while let Some(bay) = words.next_bay()? {
-        let Ok(()) = bays.push(bay) else {
-            unreachable()
-        };
+        bays.push(bay).unwrap();
     }
     Ok(bays)
 }

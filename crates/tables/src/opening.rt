@@ -47,12 +47,8 @@ impl<K: Kind> Table<K> {
         rows.clear();
         let mut words = WordReader::new(bytes);
         while let Some(found) = words.next_record()? {
-            let Some(row) = found.row() else {
-                unreachable()
-            };
-            let Ok(()) = rows.push(valued(row, rows.len())?) else {
-                unreachable()
-            };
+            let row = found.row().unwrap();
+            rows.push(valued(row, rows.len())?).unwrap();
         }
         Ok(Table { rows })
     }

@@ -66,9 +66,7 @@ pub(crate) fn edges_between(bay: &Bay) -> ArrayList<EdgeMasks, MOST_WRITES>
             before: edges_into(writes, write),
             behind: edges_from(writes, rank, write),
         };
-        let Ok(()) = edges.push(masks) else {
-            unreachable()
-        };
+        edges.push(masks).unwrap();
     }
     edges
 }

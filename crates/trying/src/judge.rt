@@ -54,9 +54,7 @@ fn placed(writes: &[Write], ranks: &[u8; 64]) -> ArrayList<usize, MOST_WRITES>
 {
     let mut places = ArrayList::new();
     for rank in &ranks[..writes.len()] {
-        let Ok(()) = places.push(writes[*rank as usize].place) else {
-            unreachable()
-        };
+        places.push(writes[*rank as usize].place).unwrap();
     }
     places
 }

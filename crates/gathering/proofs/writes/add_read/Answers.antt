@@ -1,5 +1,6 @@
 use Rattle.std.proofs.Common.{◌≡◌, length, get_or, set, ltb, Some, None, refl, sym, ap, ◌∙◌, subst, arith}
 use Rattle.std.proofs.lemmas.List.{get_or-map, length-map, map-set}
+use Rattle.std.proofs.lemmas.Result.{MatchResult-at_ok}
 use Rattle.bays.specs.Faults.{Lowest}
 use Rattle.orders.specs.Orders.{at}
 use Rattle.lists.specs.Lists.{listed}
@@ -27,14 +28,15 @@ returns-clause-added g c =
     let w = get_or c.as_slice-2.result.now rank blank in
     let same : w ≡ get_or ws rank blank = ap (λ xs. get_or xs rank blank) c.as_slice-2.ensures.value in
     let there : at ops c.args.place ≡ meant m read = told_at m c.args.rows.now c.args.place read c.requires.1 c.index-rows-place.is in
+    let wrote = MatchResult-at_ok _ _ _ c.unwrap.ensures c.set.ensures in
     let low = subst (λ xs. Lowest (length xs) (same_value ops (spans xs) c.args.place) (Some rank)) c.as_slice.ensures.value c.in_ok-rank.ensures in
     let left : span c.read_by.result ≡ read_by (span w) (at ops c.args.place) = c.read_by.ensures.span ∙ ap (read_by (span w)) (sym there) in (
       rank,
       span w,
       (omega (arith, low.0, length-map ws span), low.1, low.2),
-      ap span same ∙ sym (get_or-map span ws rank blank (span w) c.in-Ok.ensures.0),
+      ap span same ∙ sym (get_or-map span ws rank blank (span w) wrote.0),
       c.before-foreseen.ensures.ticks ∙ ap (λ o. ltb o.finish w.row.start) (sym there),
-      ap spans c.in-Ok.ensures.1 ∙ map-set span ws rank c.read_by.result ∙ ap (set (spans ws) rank) left,
+      ap spans wrote.1 ∙ map-set span ws rank c.read_by.result ∙ ap (set (spans ws) rank) left,
     )
 
 pub returns-clause-kept : goal.returns-clause-kept
@@ -45,5 +47,6 @@ returns-clause-kept g c kept =
     let read = c.index-rows-place.result in
     let w = get_or c.as_slice-2.result.now rank blank in
     let same : w ≡ get_or ws rank blank = ap (λ xs. get_or xs rank blank) c.as_slice-2.ensures.value in
+    let wrote = MatchResult-at_ok _ _ _ c.unwrap.ensures c.set.ensures in
     let of : RowOf rows (without_value read) = (c.args.place, c.requires.1, (read, c.index-rows-place.is, refl)) in
-    subst (AllKept rows) (sym (c.in-Ok.ensures.1 ∙ ap (set ws rank) c.read_by.ensures.whole)) (kept_set rows ws rank w blank c.in-Ok.ensures.0 same (without_value read) of kept)
+    subst (AllKept rows) (sym (wrote.1 ∙ ap (set ws rank) c.read_by.ensures.whole)) (kept_set rows ws rank w blank wrote.0 same (without_value read) of kept)

@@ -1,19 +1,22 @@
 use Rattle.std.proofs.Common.{◌≡◌, ◌≤◌, ◌++◌, length, drop, Ok, Err, sym, ◌∙◌, subst, arith}
 use Rattle.std.proofs.lemmas.List.{length-map}
-use Rattle.std.proofs.lemmas.Result.{err_from_is_err_and}
+use Rattle.std.proofs.lemmas.Result.{err_from_is_err_and, MatchResult-at_ok}
 use Rattle.operations.specs.Rows.{AllValid}
 use Rattle.relations.specs.Meanings.{meant, told}
 use Rattle.judging.specs.Rows.{RowsJudged}
 use Rattle.judging.proofs.Reporting.{refused_8, refused_10, refused_11, refused, reported}
 use Rattle.judging.proofs.judge.judge.Goals as goal
 
-pub unreachable-requires : goal.unreachable-requires
-unreachable-requires g c = omega (arith, c.len-operations.ensures, c.in_default.ensures)
+pub unwrap-requires : goal.unwrap-requires
+unwrap-requires g c =
+    let few : length (g.S.Source.operations c.args.source.now) ≤ 512 = omega (arith, c.len-operations.ensures) in
+    grind (arith, c.copy.ensures, few)
 
 pub judge_rows-requires : goal.judge_rows-requires
 judge_rows-requires g c =
     let source = c.args.source.now in
-    (c.if-bay-gt-LAST_BAY.false, subst AllValid (sym (c.as_slice.ensures ∙ c.in-Ok.ensures)) (g.S.Source.valid source))
+    let copied = MatchResult-at_ok _ _ _ c.unwrap.ensures c.copy.ensures in
+    (c.if-bay-gt-LAST_BAY.false, subst AllValid (sym (c.as_slice.ensures ∙ copied)) (g.S.Source.valid source))
 
 pub returns-then-bay-gt-LAST_BAY : goal.returns-then-bay-gt-LAST_BAY
 returns-then-bay-gt-LAST_BAY g c = refused_8 (told g.S.Value.Kind.meaning (g.S.Source.operations c.args.source.now)) c.args.bay c.args.limit c.args.sheet.now c.if-bay-gt-LAST_BAY.true
@@ -31,17 +34,19 @@ returns-in_err-found g c =
     let meaning = g.S.Value.Kind.meaning in
     let rows = g.S.Source.operations c.args.source.now in
     let short : length (told meaning rows) ≤ 512 = omega (arith, length-map rows (meant meaning), c.len-operations.ensures) in
+    let copied = MatchResult-at_ok _ _ _ c.unwrap.ensures c.copy.ensures in
     let p = err_from_is_err_and c.from_residual.result c.from_residual.ensures.1 in
     rw (p.1, p.2)
     (refused (told meaning rows) c.args.bay c.args.limit c.args.sheet.now (omega arith) (omega arith) (omega arith) (omega arith) short c.in_err-found.field-0.0
-    (subst (λ l. RowsJudged (told meaning l) c.args.bay c.args.limit (Err c.in_err-found.field-0.0)) (c.as_slice.ensures ∙ c.in-Ok.ensures) c.in_err-found.ensures))
+    (subst (λ l. RowsJudged (told meaning l) c.args.bay c.args.limit (Err c.in_err-found.field-0.0)) (c.as_slice.ensures ∙ copied) c.in_err-found.ensures))
 
 pub returns : goal.returns
 returns g c =
     let meaning = g.S.Value.Kind.meaning in
     let rows = g.S.Source.operations c.args.source.now in
     let short : length (told meaning rows) ≤ 512 = omega (arith, length-map rows (meant meaning), c.len-operations.ensures) in
+    let copied = MatchResult-at_ok _ _ _ c.unwrap.ensures c.copy.ensures in
     rw c.len.ensures
     (reported (told meaning rows) c.args.bay c.args.limit c.args.sheet.now (omega arith) (omega arith) (omega arith) (omega arith) short c.in_ok-found.found c.fill.new.sheet
-    (subst (λ l. RowsJudged (told meaning l) c.args.bay c.args.limit (Ok c.in_ok-found.found)) (c.as_slice.ensures ∙ c.in-Ok.ensures) c.in_ok-found.ensures)
+    (subst (λ l. RowsJudged (told meaning l) c.args.bay c.args.limit (Ok c.in_ok-found.found)) (c.as_slice.ensures ∙ copied) c.in_ok-found.ensures)
     (subst (λ order. c.fill.new.sheet ≡ order ++ drop (length order) c.args.sheet.now) c.as_slice-2.ensures.value c.fill.ensures))

@@ -1,19 +1,20 @@
-use Rattle.std.proofs.Common.{◌≡◌, ◌≤◌, ◌++◌, length, drop, sym, ap, ◌∙◌, arith, rules}
+use Rattle.std.proofs.Common.{◌≡◌, ◌<◌, ◌≤◌, ◌++◌, length, drop, sym, ap, ◌∙◌, arith, rules}
+use Rattle.std.proofs.lemmas.Result.{MatchResult-at_ok}
 use Rattle.judging.proofs.Filling.{fill_more, fill_room, fill_all}
 use Rattle.judging.proofs.sheet.fill.Goals as goal
 
-pub unreachable-requires : goal.unreachable-requires
-unreachable-requires c =
-    let room = c.in_default.ensures.pushed.0 in
-    omega (arith, ap length c.new-entries.ensures.same, fill_room c.args.order.now c.new-entries.result.items.now c.loop-place.entries.items.now c.loop-place.place-index (omega (arith, ap length c.new-entries.ensures.same)) c.loop-place.invariant.1 (omega arith))
+pub unwrap-requires : goal.unwrap-requires
+unwrap-requires c =
+    let room : c.loop-place.entries.len < length c.loop-place.entries.items.now = omega (arith, ap length c.new-entries.ensures.same, fill_room c.args.order.now c.new-entries.result.items.now c.loop-place.entries.items.now c.loop-place.place-index (omega (arith, ap length c.new-entries.ensures.same)) c.loop-place.invariant.1 (omega arith)) in
+    grind (arith, c.push.ensures.pushed, room)
 
 pub loop-place-preserved : goal.loop-place-preserved
 loop-place-preserved c =
-    let pushed = c.in-Ok.ensures.pushed in
+    let pushed = MatchResult-at_ok _ _ _ c.unwrap.ensures c.push.ensures.pushed in
     let short : length c.args.order.now ≤ length c.new-entries.result.items.now = omega (arith, ap length c.new-entries.ensures.same) in (
       omega arith,
       fill_more c.args.order.now c.new-entries.result.items.now c.loop-place.entries.items.now c.loop-place.place-index short c.loop-place.invariant.1 _ c.loop-place.entries.len (omega arith) c.loop-place.invariant.0 pushed.2,
-      c.in-Ok.ensures.lent ∙ c.loop-place.invariant.2,
+      c.push.ensures.lent ∙ c.loop-place.invariant.2,
     )
 
 pub returns : goal.returns

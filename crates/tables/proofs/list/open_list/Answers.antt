@@ -2,7 +2,7 @@ use Rattle.std.proofs.Common.{◌≡◌, ℕ, ◌+◌, ◌*◌, ◌<◌, ◌≤�
 use Rattle.std.proofs.lemmas.List.{length_push}
 use Rattle.std.proofs.lemmas.Result.{err_from_is_err_and}
 use Rattle.operations.specs.Checks.{first_failed, each_below}
-use Rattle.operations.specs.Rooms.{held}
+use Rattle.operations.specs.Rooms.{held, Pushed}
 use Rattle.operations.proofs.Checks.{each_passed, each_push}
 use Rattle.tables.specs.declared.refusal.ListRefusal.TheVariants.{Words}
 use Rattle.tables.specs.Lists.{bay_checks}
@@ -28,7 +28,7 @@ loop-bays-preserved c =
     let inv = c.loop-bays.invariant in let bays = held c.loop-bays.bays in let i = length bays in
     let handed : HandedBay words.bytes.now words.word w' (Ok (Some bay)) = subst (λ o. HandedBay words.bytes.now words.word w' (Ok o)) c.in-Some.is c.in_ok-bay.ensures.handed in
     let h : HandedBay bytes i w' (Ok (Some bay)) = bay_here words.bytes.now bytes words.word i w' (Ok (Some bay)) inv.0 inv.1 handed in
-    let pushed : held c.push.new.self ≡ bays ++ (bay ∷ []) = c.in-Ok.ensures in
+    let pushed : held c.push.new.self ≡ bays ++ (bay ∷ []) = subst (Pushed bays bay (held c.push.new.self)) c.unwrap.ensures c.push.ensures in
     let more : length (held c.push.new.self) ≡ i + 1 = ap length pushed ∙ length_push bays bay in (
       c.in_ok-bay.ensures.file ∙ inv.0,
       omega (arith, h.3),

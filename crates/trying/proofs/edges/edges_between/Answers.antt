@@ -1,5 +1,6 @@
 use Rattle.std.proofs.Common.{◌≡◌, ◌+◌, length, sym, subst, arith}
 use Rattle.std.proofs.lemmas.List.{length_push}
+use Rattle.std.proofs.lemmas.Result.{MatchResult-at_ok}
 use Rattle.lists.specs.Lists.{listed}
 use Rattle.searching.specs.declared.edges.EdgeMasks.{EdgeMasks}
 use Rattle.gathering.specs.Spans.{spans}
@@ -13,7 +14,8 @@ loop-rank-preserved c =
     let edges = listed c.loop-rank.edges in
     let masks : EdgeMasks = record { before = c.edges_into.result; behind = c.edges_from.result } in
     let inv = c.loop-rank.invariant in
-    subst (λ l. EdgesOf (spans ws) l × (length l ≡ c.loop-rank.rank + 1)) (sym c.in-Ok.ensures.1) (
+    let pushed = MatchResult-at_ok _ _ _ c.unwrap.ensures c.push.ensures in
+    subst (λ l. EdgesOf (spans ws) l × (length l ≡ c.loop-rank.rank + 1)) (sym pushed.1) (
       edges_more_write ws edges c.loop-rank.rank blank masks inv.0 inv.1 c.loop-rank-test.true c.edges_into.ensures c.edges_from.ensures,
       omega (arith, length_push edges masks, inv.1),
     )

@@ -1,7 +1,8 @@
 use Rattle.std.proofs.Common.{◌≡◌, ℕ, ◌+◌, ◌*◌, ◌<◌, ◌≤◌, List, [], ◌∷◌, ◌++◌, length, get_or, Some, None, Ok, Err, sym, ap, ◌∙◌, subst, arith}
 use Rattle.std.proofs.lemmas.List.{length_push}
+use Rattle.std.proofs.lemmas.Option.{MatchOption-at_some}
 use Rattle.std.proofs.lemmas.Result.{err_from_is_err_and}
-use Rattle.operations.specs.Rooms.{held}
+use Rattle.operations.specs.Rooms.{held, Pushed}
 use Rattle.operations.specs.declared.row.Row.{Row}
 use Rattle.operations.specs.Checks.{first_failed, each_below}
 use Rattle.words.specs.Reading.{Handed}
@@ -23,13 +24,14 @@ returns-in_err-found g c =
     let p = err_from_is_err_and c.from_residual.result c.from_residual.ensures.1 in
     rw (p.1, p.2) fails
 
-pub unreachable-requires : goal.unreachable-requires
-unreachable-requires g c =
+pub unwrap-row-requires : goal.unwrap-row-requires
+unwrap-row-requires g c =
     let bytes = c.args.bytes.now in let words = c.loop-rows.words in let found = c.in-Some.found in
     let inv = c.loop-rows.invariant in let i = length (held c.loop-rows.rows) in let w' = c.next_record.new.self.word in
     let handed : Handed words.bytes.now words.word w' (Ok (Some found)) = subst (λ o. Handed words.bytes.now words.word w' (Ok o)) c.in-Some.is c.in_ok-found.ensures.handed in
     let h : Handed bytes (3 * i) w' (Ok (Some found)) = handed_here words.bytes.now bytes words.word i w' inv.0 inv.1 (Ok (Some found)) handed in
-    c.in_default-row.ensures (twelve bytes (3 * i) found h.0 h.2)
+    let whole = twelve bytes (3 * i) found h.0 h.2 in
+    grind (arith, c.row.ensures, whole)
 
 pub returns-in_err-valued : goal.returns-in_err-valued
 returns-in_err-valued g c =
@@ -37,9 +39,9 @@ returns-in_err-valued g c =
     let inv = c.loop-rows.invariant in let i = length (held c.loop-rows.rows) in let w' = c.next_record.new.self.word in
     let handed : Handed words.bytes.now words.word w' (Ok (Some found)) = subst (λ o. Handed words.bytes.now words.word w' (Ok o)) c.in-Some.is c.in_ok-found.ensures.handed in
     let h : Handed bytes (3 * i) w' (Ok (Some found)) = handed_here words.bytes.now bytes words.word i w' inv.0 inv.1 (Ok (Some found)) handed in
-    let row = c.in-Some-row.row in let refused = c.in_err-valued.field-0.0 in
+    let row = c.unwrap-row.result in let refused = c.in_err-valued.field-0.0 in
     let short : length bytes ≤ 6144 = omega arith in
-    let made = handed_row bytes (3 * i) found row h.2 c.in-Some-row.ensures in
+    let made = handed_row bytes (3 * i) found row h.2 (MatchOption-at_some _ _ _ c.unwrap-row.ensures c.row.ensures) in
     let wrong = subst (λ place. first_failed (value_checks reads row place) ≡ Some (table_refusal refused)) c.len.ensures c.in_err-valued.ensures in
     let fails = table_fails reads bytes short c.if-bytes-ne0.false i (table_refusal refused) (omega (arith, h.0)) inv.2 (value_fails reads bytes i found row h.1 h.2 made (table_refusal refused) wrong) in
     let p = err_from_is_err_and c.from_residual-in_err-valued.result c.from_residual-in_err-valued.ensures.1 in
@@ -51,9 +53,9 @@ loop-rows-preserved g c =
     let inv = c.loop-rows.invariant in let rows = held c.loop-rows.rows in let i = length rows in let w' = c.next_record.new.self.word in
     let handed : Handed words.bytes.now words.word w' (Ok (Some found)) = subst (λ o. Handed words.bytes.now words.word w' (Ok o)) c.in-Some.is c.in_ok-found.ensures.handed in
     let h : Handed bytes (3 * i) w' (Ok (Some found)) = handed_here words.bytes.now bytes words.word i w' inv.0 inv.1 (Ok (Some found)) handed in
-    let row = c.in-Some-row.row in let v = c.in_ok-valued.field-0 in
-    let made = handed_row bytes (3 * i) found row h.2 c.in-Some-row.ensures in
-    let pushed : held c.push.new.self ≡ rows ++ (v ∷ []) = c.in-Ok.ensures in
+    let row = c.unwrap-row.result in let v = c.in_ok-valued.field-0 in
+    let made = handed_row bytes (3 * i) found row h.2 (MatchOption-at_some _ _ _ c.unwrap-row.ensures c.row.ensures) in
+    let pushed : held c.push.new.self ≡ rows ++ (v ∷ []) = subst (Pushed rows v (held c.push.new.self)) c.unwrap.ensures c.push.ensures in
     let more : length (held c.push.new.self) ≡ i + 1 = ap length pushed ∙ length_push rows v in
     let passes = each_passed (record_checks reads bytes) i inv.2 (record_passes reads bytes i found row h.1 h.2 made v c.in_ok-valued.ensures) in
     let holds = record_holds reads bytes i found row h.1 h.2 made v c.in_ok-valued.ensures in (
