@@ -1,1 +1,2 @@
 pub mod Folders
+pub mod Sayings
