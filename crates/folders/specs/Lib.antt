@@ -1,1 +1,3 @@
 pub mod Folders
+pub mod Sayings
+pub mod Reports

@@ -3,4 +3,5 @@
 
 pub mod failed;
 pub mod folder;
+pub mod records;
 pub mod saying;

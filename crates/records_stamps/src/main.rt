@@ -1,18 +1,10 @@
 // Prints the account of table.bin and bays.bin in the folder that it is run in. The table's values are stamps.
 #![tactic(auto)]
 
-use folders::failed::Failed;
-use folders::folder::Folder;
+use folders::records::told;
 use folders::saying::say;
-use reports::reporting::account;
 use values::stamp::Stamp;
 
-fn told(rt: &HostRuntime) -> Result<String, Failed> {
-    let folder = Folder::<Stamp>::open(rt)?;
-    let text = account(rt.alloc(), &folder.table, folder.list.as_deref())?;
-    Ok(text)
-}
-
 fn main(rt: HostRuntime) -> anyhow::Result<()> {
-    say(&rt, told(&rt))
+    say(&rt, told::<Stamp>(&rt))
 }

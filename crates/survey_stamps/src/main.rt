@@ -1,20 +1,10 @@
 // Prints the survey of table.bin, with the bays of bays.bin left out, in the folder that it is run in. The table's values are stamps.
 #![tactic(auto)]
 
-use folders::failed::Failed;
-use folders::folder::Folder;
 use folders::saying::say;
-use summaries::summary::summary;
-use surveying::survey::MOST_TRIALS;
+use summaries::folder::told;
 use values::stamp::Stamp;
 
-fn told(rt: &HostRuntime) -> Result<String, Failed> {
-    let folder = Folder::<Stamp>::open(rt)?;
-    let list = folder.list.as_deref();
-    let text = summary(rt.alloc(), &folder.table, list, MOST_TRIALS)?;
-    Ok(text)
-}
-
 fn main(rt: HostRuntime) -> anyhow::Result<()> {
-    say(&rt, told(&rt))
+    say(&rt, told::<Stamp>(&rt))
 }
