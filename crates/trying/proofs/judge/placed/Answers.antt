@@ -1,6 +1,5 @@
-use Rattle.std.proofs.Common.{◌≡◌, ◌+◌, ◌<◌, ◌∷◌, [], ◌++◌, length, get_or, take, sym, ap, ◌∙◌, subst, arith}
+use Rattle.std.proofs.Common.{◌≡◌, ◌<◌, ◌∷◌, [], ◌++◌, length, get_or, take, sym, ap, ◌∙◌, subst, arith}
 use Rattle.std.proofs.lemmas.List.{get_or-take, map-append, take_more, length-take}
-use Rattle.lists.specs.Lists.{listed}
 use Rattle.gathering.specs.Spans.{spans}
 use Rattle.gathering.specs.Writes.{places}
 use Rattle.trying.specs.Trying.{placed}
