@@ -9,27 +9,18 @@ use crate::judgment::Judgment;
 use crate::refusal::JudgeRefusal;
 use crate::sheet::fill;
 use gathering::bay::Bay;
+use gathering::write::MOST_WRITES;
 use operations::copying::copy;
-use operations::room::Room;
+use operations::operation::LAST_BAY;
+use operations::room::{MOST_OPERATIONS, Room};
 use operations::row::Row;
 use operations::source::Source;
-use trying::judge::judge_bay;
+use trying::judge::{MOST_TRIALS, judge_bay};
 use trying::order::BayOrder;
 use values::kind::Kind;
 
-// The last bay.
-const LAST_BAY: u32 = 63;
-
-// The largest limit on trials.
-const MOST_TRIALS: u32 = 1_000_000;
-
-// How many entries a sheet must have, which is how many writes a bay may have.
-const ENTRIES: usize = 64;
-
-// How many operations a source may have.
-const MOST_OPERATIONS: usize = 512;
-
-// Judges the bay: its age, the trials, and its value order on the first entries of the sheet. The room is memory to work in, and
+// Judges the bay: its age, the trials, and its value order on the first entries of the sheet, which has one for each write that a
+// bay may have. The room is memory to work in, and
 // what it held is lost. A refused judge leaves the sheet.
 pub fn judge<S: Source>(
     source: &S,
@@ -40,14 +31,14 @@ pub fn judge<S: Source>(
 ) -> Result<Judgment, JudgeRefusal>
     ensures { Judged (told S.Value.Kind.meaning (S.Source.operations source.now)) bay limit sheet.old sheet.new result }
 {
-    if bay > LAST_BAY {
+    if bay > u32::from(LAST_BAY) {
         return Err(JudgeRefusal::NoBay { bay });
     }
     if limit == 0 || limit > MOST_TRIALS {
         return Err(JudgeRefusal::NoLimit { limit });
     }
     let entries = sheet.len();
-    if entries < ENTRIES {
+    if entries < MOST_WRITES {
         return Err(JudgeRefusal::ShortSheet { entries });
     }
     let operations = source.len();

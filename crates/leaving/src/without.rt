@@ -6,7 +6,7 @@ ghost use Rattle.leaving.specs.Leaving.{entries, unlisted, keeps, BaysUpTo, Mask
 ghost use Rattle.leaving.specs.Owed.{kept_valid};
 
 use masks::{has_bit, with_bit};
-use operations::operation::Operation;
+use operations::operation::{LAST_BAY, Operation};
 use operations::pass::Pass;
 use operations::refusal::{NoBay, PastEnd};
 use operations::source::Source;
@@ -109,7 +109,7 @@ fn mask_of(bays: &[u32]) -> Result<u64, NoBay>
 {
     let mut mask: u64 = 0;
     for (place, &bay) in bays.iter().enumerate() {
-        if bay > 63 {
+        if bay > u32::from(LAST_BAY) {
             return Err(NoBay { entry: place });
         }
         mask = with_bit(mask, bay);

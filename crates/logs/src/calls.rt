@@ -8,10 +8,10 @@ ghost use Rattle.logs.specs.Steps.{ticket as ticket_of, Opens, Begins, Ends, Los
 use crate::act::Act;
 use crate::handed_back::HandedBack;
 use crate::log::{Closed, Recording};
-use crate::steps::LAST_TICK;
 use crate::storage::Storage;
 use crate::ticket::Ticket;
 use lives::refusal::LogRefusal;
+use operations::operation::LAST_TICK;
 
 impl Recording {
     // Opens a log on a storage, and empties it.

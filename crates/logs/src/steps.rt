@@ -13,16 +13,9 @@ use crate::storage::Storage;
 use crate::ticket_name::TicketName;
 use lists::BoundedList;
 use lives::refusal::LogRefusal;
+use operations::operation::{LAST_BAY, LAST_CABINET, LAST_TICK};
+use operations::room::MOST_OPERATIONS;
 use operations::row::{Row, Sort};
-
-// The last bay and the last cabinet.
-const LAST: u32 = 63;
-
-// The last tick.
-pub(crate) const LAST_TICK: u32 = 1_073_741_823;
-
-// How many operations a log may hold, however long its storage is.
-const MOST: usize = 512;
 
 impl Cabinet {
     // A cabinet with an operation of this sort.
@@ -65,16 +58,16 @@ impl<'a, V: Copy> Storage<'a, V> {
         ensures answer { Begins (λ tick. tick) (state_of self.old) (state_of self.new) sort cabinet bay result }
         ensures untouched { is_ok result ≡ false → self.new ≡ self.old }
     {
-        if cabinet > LAST {
+        if cabinet > u32::from(LAST_CABINET) {
             return Err(LogRefusal::NoCabinet { cabinet });
         }
-        if bay > LAST {
+        if bay > u32::from(LAST_BAY) {
             return Err(LogRefusal::NoSuchBay { bay });
         }
         let Cabinet::Idle = self.cabinets[cabinet as usize] else {
             return Err(LogRefusal::Busy { cabinet });
         };
-        let limit = self.ended.capacity().min(MOST);
+        let limit = self.ended.capacity().min(MOST_OPERATIONS);
         if self.ended.len + self.waiting as usize >= limit {
             return Err(LogRefusal::Full { limit });
         }

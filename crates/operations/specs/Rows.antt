@@ -6,6 +6,10 @@ use Rattle.operations.specs.declared.row.Row.{Row}
 abbrev pub finished_at : {V : Type 0} → Row V → ℕ → Row V
 finished_at r finish = record { sort = r.sort; bay = r.bay; cabinet = r.cabinet; value = r.value; start = r.start; finish = finish }
 
+-- the row with another value, the rest equal
+abbrev pub with_value : {V W : Type 0} → Row V → W → Row W
+with_value r value = record { sort = r.sort; bay = r.bay; cabinet = r.cabinet; value = value; start = r.start; finish = r.finish }
+
 -- the row without its value, the rest equal
 abbrev pub without_value : {V : Type 0} → Row V → Row (Unit {0})
 without_value r = record { sort = r.sort; bay = r.bay; cabinet = r.cabinet; value = tt; start = r.start; finish = r.finish }

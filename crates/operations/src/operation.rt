@@ -5,11 +5,17 @@ ghost use Rattle.operations.specs.Rows.{Valid};
 use crate::row::Row;
 use std::alloc::AllocError;
 
-// The last bay and the last cabinet.
-const LAST: u8 = 63;
+// How many bays there are.
+pub const BAYS: u8 = 64;
+
+// The last bay, counted from 0.
+pub const LAST_BAY: u8 = 63;
+
+// The last cabinet, counted from 0.
+pub const LAST_CABINET: u8 = 63;
 
 // The last tick.
-const LAST_TICK: u32 = 1_073_741_823;
+pub const LAST_TICK: u32 = 1_073_741_823;
 
 // An operation: a row that keeps the rules.
 pub struct Operation<V> {
@@ -37,8 +43,8 @@ impl<V: Copy> Operation<V> {
     pub fn of(row: Row<V>) -> Option<Operation<V>>
         ensures { MatchOption result (Valid row → ⊥) (λ o. o.row ≡ row) }
     {
-        if row.bay > LAST
-            || row.cabinet > LAST
+        if row.bay > LAST_BAY
+            || row.cabinet > LAST_CABINET
             || row.start > row.finish
             || row.finish > LAST_TICK
         {

@@ -3,11 +3,8 @@ ghost use Rattle.std.specs.Prelude.{◌≡◌, [], length, IfOk};
 ghost use Rattle.operations.specs.Rooms.{held, Pushed, Replaced};
 
 use crate::refusal::PastEnd;
-use crate::room::Room;
+use crate::room::{MOST_OPERATIONS, Room};
 use std::alloc::{AllocError, Global};
-
-// How many elements a room has place for.
-const PLACES: usize = 512;
 
 // There was no room for one more.
 #[derive(Clone, Copy)]
@@ -18,7 +15,7 @@ impl<T: Copy> Room<T> {
     pub fn new(heap: Global) -> Result<Room<T>, AllocError>
         ensures { IfOk result (λ room. held room ≡ []) }
     {
-        let items = Vec::with_capacity(heap, PLACES)?;
+        let items = Vec::with_capacity(heap, MOST_OPERATIONS)?;
         Ok(Room { items })
     }
 
@@ -43,7 +40,7 @@ impl<T: Copy> Room<T> {
     pub fn push(&mut self, element: T) -> Result<(), Full>
         ensures { Pushed (held self.old) element (held self.new) result }
     {
-        if self.len() >= PLACES {
+        if self.len() >= MOST_OPERATIONS {
             return Err(Full);
         }
         self.items.push_reserved(element);

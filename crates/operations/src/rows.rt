@@ -1,6 +1,6 @@
 // Rows made of rows.
 ghost use Rattle.std.specs.Prelude.{◌≡◌};
-ghost use Rattle.operations.specs.Rows.{finished_at, without_value};
+ghost use Rattle.operations.specs.Rows.{finished_at, with_value, without_value};
 
 use crate::row::Row;
 
@@ -12,17 +12,24 @@ impl<V: Copy> Row<V> {
         Row { finish, ..self }
     }
 
-    // The same row without its value. So it has one size for every kind of value.
-    pub fn without_value(&self) -> Row<()>
-        ensures { result ≡ without_value self.now }
+    // The same row with another value, of this kind or another.
+    pub fn with_value<W>(&self, value: W) -> Row<W>
+        ensures { result ≡ with_value self.now value }
     {
         Row {
             sort: self.sort,
             bay: self.bay,
             cabinet: self.cabinet,
-            value: (),
+            value,
             start: self.start,
             finish: self.finish,
         }
+    }
+
+    // The same row without its value. So it has one size for every kind of value.
+    pub fn without_value(&self) -> Row<()>
+        ensures { result ≡ without_value self.now }
+    {
+        self.with_value(())
     }
 }

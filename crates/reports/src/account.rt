@@ -6,6 +6,7 @@ ghost use Rattle.reports.specs.Accounts.{bays_words, or_none, told_words};
 
 use crate::lines::Operations;
 use leaving::without::Without;
+use operations::operation::BAYS;
 use operations::source::Source;
 use std::fmt;
 use values::words::Written;
@@ -21,7 +22,7 @@ impl<'a, S> BaysLeftOut<'a, S> {
     fn lowest(&self) -> Option<u32>
         ensures { MatchOption result ((bay : ℕ) → bay < 64 → has_bit self.now.kept.mask bay ≡ false) (λ bay. (bay < 64) × (has_bit self.now.kept.mask bay ≡ true)) }
     {
-        (0..64).find(|bay| self.kept.leaves_out(*bay))
+        (0..u32::from(BAYS)).find(|bay| self.kept.leaves_out(*bay))
     }
 }
 
@@ -32,7 +33,7 @@ impl<'a, S> fmt::Display for BaysLeftOut<'a, S> {
         let Some(_) = self.lowest() else {
             return f.write_str(" none");
         };
-        for bay in 0..64 {
+        for bay in 0..u32::from(BAYS) {
             if self.kept.leaves_out(bay) {
                 write!(f, " {bay}")?;
             }

@@ -5,7 +5,7 @@ ghost use Rattle.summaries.specs.Summarising.{Summarised};
 use crate::summary::summary;
 use folders::failed::Failed;
 use folders::folder::Folder;
-use surveying::survey::MOST_TRIALS;
+use trying::judge::MOST_TRIALS;
 use values::kind::Kind;
 
 // The survey of the folder's table without the bays of its list, with the highest limit.

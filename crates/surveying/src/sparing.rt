@@ -9,11 +9,9 @@ ghost use Rattle.surveying.specs.Surveying.{crane_bays};
 use crate::refusal::SurveyRefusal;
 use gathering::bay::Bay;
 use gathering::faults::Faults;
+use operations::operation::BAYS;
 use operations::row::Row;
 use values::kind::Kind;
-
-// How many bays a crane has.
-pub const BAYS: u8 = 64;
 
 // The lower of two places that may be there.
 fn lower(one: Option<usize>, other: Option<usize>) -> Option<usize>

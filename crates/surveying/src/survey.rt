@@ -9,13 +9,9 @@ use crate::refusal::SurveyRefusal;
 use crate::report::Report;
 use crate::sparing::spare;
 use operations::copying::copy;
+use operations::room::MOST_OPERATIONS;
 use operations::source::Source;
-
-// The largest limit on trials.
-pub const MOST_TRIALS: u32 = 1_000_000;
-
-// How many operations a source may have.
-const MOST_OPERATIONS: usize = 512;
+use trying::judge::MOST_TRIALS;
 
 // Surveys every bay of the source, with no more trials than the limit in all. An accepted survey leaves its findings on the desk.
 pub fn survey<S: Source>(

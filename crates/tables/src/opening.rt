@@ -21,14 +21,7 @@ fn valued<K: Kind>(row: Row<u32>, place: usize) -> Result<Row<K>, TableRefusal>
     if row.start > row.finish {
         return Err(TableRefusal::StartsLate { place });
     }
-    Ok(Row {
-        sort: row.sort,
-        bay: row.bay,
-        cabinet: row.cabinet,
-        value,
-        start: row.start,
-        finish: row.finish,
-    })
+    Ok(row.with_value(value))
 }
 
 impl<K: Kind> Table<K> {

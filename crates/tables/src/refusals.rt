@@ -6,17 +6,15 @@ ghost use Rattle.tables.specs.declared.refusal.TableRefusal.TheVariants as table
 
 use crate::refusal::{ListRefusal, TableRefusal};
 use operations::refusal::{Layer, Refusal};
+use operations::room::MOST_OPERATIONS;
 use words::refusal::WrongKind;
-
-// The number of records of a table, or of words of a list, that refusal 1 names.
-const MOST: usize = 512;
 
 impl From<TableRefusal> for Refusal {
     ghost from_gives = { λ refused refusal. refusal ≡ table_refusal refused };
 
     fn from(refused: TableRefusal) -> Refusal {
         let (number, place, layer) = match refused {
-            TableRefusal::TooLong => (1, MOST, Layer::Table),
+            TableRefusal::TooLong => (1, MOST_OPERATIONS, Layer::Table),
             TableRefusal::Ragged { length } => (2, length, Layer::Table),
             TableRefusal::Words(wrong) => (3, wrong.word, Layer::WordsInTable),
             TableRefusal::NoValue { place } => (4, place, Layer::Table),
@@ -35,7 +33,7 @@ impl From<ListRefusal> for Refusal {
 
     fn from(refused: ListRefusal) -> Refusal {
         let (number, place, layer) = match refused {
-            ListRefusal::TooLong => (1, MOST, Layer::List),
+            ListRefusal::TooLong => (1, MOST_OPERATIONS, Layer::List),
             ListRefusal::Ragged { length } => (2, length, Layer::List),
             ListRefusal::Words(wrong) => (3, wrong.word, Layer::WordsInList),
         };

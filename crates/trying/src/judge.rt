@@ -16,6 +16,9 @@ use lists::ArrayList;
 use searching::edges::Edges;
 use searching::search::{FirstOrder, NotFound};
 
+// The largest limit on trials.
+pub const MOST_TRIALS: u32 = 1_000_000;
+
 // Tries the value orders of a gathered bay, with no more trials than the limit. What it finds is said of a bay without faults.
 pub fn judge_bay(bay: &Bay, limit: u32) -> Result<BayOrder, NotFound>
     ensures { (ops : List Operation) (b : ℕ) → Gathered ops b bay.now → Judgeable ops (of_bay b) → JudgedWithin ops b limit result }

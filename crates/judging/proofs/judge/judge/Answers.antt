@@ -16,13 +16,13 @@ pub judge_rows-requires : goal.judge_rows-requires
 judge_rows-requires g c =
     let source = c.args.source.now in
     let copied = MatchResult-at_ok _ _ _ c.unwrap.ensures c.copy.ensures in
-    (c.if-bay-gt-LAST_BAY.false, subst AllValid (sym (c.as_slice.ensures ∙ copied)) (g.S.Source.valid source))
+    (omega arith, subst AllValid (sym (c.as_slice.ensures ∙ copied)) (g.S.Source.valid source))
 
-pub returns-then-bay-gt-LAST_BAY : goal.returns-then-bay-gt-LAST_BAY
-returns-then-bay-gt-LAST_BAY g c = refused_8 (told g.S.Value.Kind.meaning (g.S.Source.operations c.args.source.now)) c.args.bay c.args.limit c.args.sheet.now c.if-bay-gt-LAST_BAY.true
+pub returns-then-bay-from : goal.returns-then-bay-from
+returns-then-bay-from g c = refused_8 (told g.S.Value.Kind.meaning (g.S.Source.operations c.args.source.now)) c.args.bay c.args.limit c.args.sheet.now (omega arith)
 
-pub returns-then-entries-lt-ENTRIES : goal.returns-then-entries-lt-ENTRIES
-returns-then-entries-lt-ENTRIES g c = refused_10 (told g.S.Value.Kind.meaning (g.S.Source.operations c.args.source.now)) c.args.bay c.args.limit c.args.sheet.now (omega arith) (omega arith) (omega arith) c.if-entries-lt-ENTRIES.true
+pub returns-then-entries-lt-MOST_WRITES : goal.returns-then-entries-lt-MOST_WRITES
+returns-then-entries-lt-MOST_WRITES g c = refused_10 (told g.S.Value.Kind.meaning (g.S.Source.operations c.args.source.now)) c.args.bay c.args.limit c.args.sheet.now (omega arith) (omega arith) (omega arith) c.if-entries-lt-MOST_WRITES.true
 
 pub returns-then-operations-gt-MOST_OPERATIONS : goal.returns-then-operations-gt-MOST_OPERATIONS
 returns-then-operations-gt-MOST_OPERATIONS g c =

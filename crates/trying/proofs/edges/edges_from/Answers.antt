@@ -1,4 +1,4 @@
-use Rattle.std.proofs.Common.{◌≡◌, ◌≤◌, not, ◌&&◌, eqb, length, sym, ap, ◌∙◌, subst, arith}
+use Rattle.std.proofs.Common.{◌≡◌, ◌≤◌, not, ◌&&◌, eqb, sym, ap, ◌∙◌, subst, arith}
 use Rattle.gathering.specs.Spans.{span, spans}
 use Rattle.trying.specs.Edges.{Bits, before_last, is_from}
 use Rattle.trying.proofs.Masked.{blank, write_last, bits_yes, bits_no}

@@ -1,4 +1,4 @@
-use Rattle.std.proofs.Common.{◌≡◌, ◌≤◌, length, ltb, sym, ap, ◌∙◌, subst, arith}
+use Rattle.std.proofs.Common.{◌≡◌, ◌≤◌, ltb, sym, ap, ◌∙◌, subst, arith}
 use Rattle.gathering.specs.Spans.{span, spans}
 use Rattle.trying.specs.Edges.{Bits, is_into}
 use Rattle.trying.proofs.Masked.{blank, write_finish, bits_yes, bits_no}
