@@ -1,5 +1,6 @@
 -- Tests on lists, one after the other. Assumes nothing.
 use Rattle.std.proofs.Common.{◌≡◌, suc, ◌≤◌, Bool, true, false, cond, not, ◌&&◌, ◌||◌, List, [], ◌∷◌, length, filter, sym, refl, ap, ◌∙◌, arith}
+use Rattle.std.proofs.lemmas.List.Elements.{filter_agree}
 use Rattle.std.proofs.lemmas.List.Filters.{length-filter_both}
 
 pub and_comm : (a b : Bool) → (a && b) ≡ (b && a)
@@ -15,11 +16,6 @@ not_or false true = refl
 not_or false false = refl
 
 module _ {A : Type 0} where
-  -- tests that agree keep the same
-  pub kept_same : (p q : A → Bool) → ((x : A) → p x ≡ q x) → (xs : List A) → filter p xs ≡ filter q xs
-  kept_same p q h [] = refl
-  kept_same p q h (x ∷ xs) = let a = h x in let b = kept_same p q h xs in cc
-
   twice_at : (a b : Bool) (p : A → Bool) (x : A) (ks qs : List A) → p x ≡ a → ks ≡ filter p qs → cond (a && b) (x ∷ ks) ks ≡ filter p (cond b (x ∷ qs) qs)
   twice_at true true p x ks qs e h = let z : filter p (x ∷ qs) ≡ x ∷ filter p qs = ap (λ v. cond v (x ∷ filter p qs) (filter p qs)) e in ap (λ l. x ∷ l) h ∙ sym z
   twice_at true false p x ks qs e h = h
@@ -32,7 +28,7 @@ module _ {A : Type 0} where
   kept_twice p q (x ∷ xs) = twice_at (p x) (q x) p x (filter (λ y. p y && q y) xs) (filter q xs) refl (kept_twice p q xs)
 
   pub kept_swap : (p q : A → Bool) (xs : List A) → filter p (filter q xs) ≡ filter q (filter p xs)
-  kept_swap p q xs = sym (kept_twice p q xs) ∙ (kept_same (λ x. p x && q x) (λ x. q x && p x) (λ x. and_comm (p x) (q x)) xs ∙ kept_twice q p xs)
+  kept_swap p q xs = sym (kept_twice p q xs) ∙ (filter_agree (λ x. p x && q x) (λ x. q x && p x) (λ x. and_comm (p x) (q x)) xs ∙ kept_twice q p xs)
 
   kept_less : (p : A → Bool) (xs : List A) → length (filter p xs) ≤ length xs
   kept_less p xs = omega (arith, length-filter_both p (λ x. not (p x)) (λ x. refl) xs)

@@ -2,6 +2,7 @@
 use Rattle.std.proofs.Common.{◌≡◌, ℕ, ◌<◌, ◌≤◌, Bool, true, false, cond, not, ◌&&◌, ◌||◌, eqb, List, [], ◌∷◌, ◌++◌, map, length, get_or, Some, None, filter, sym, refl, ap, ◌∙◌, subst, inl, inr, ⊎_elim, arith}
 use Rattle.std.specs.List.{AllByRecursion as All}
 use Rattle.std.proofs.ByRecursion.{kept_by_passes}
+use Rattle.std.proofs.lemmas.List.Elements.{filter_agree}
 use Rattle.std.proofs.lemmas.List.{get_or_append_left, get_or_push}
 use Rattle.std.proofs.lemmas.Bool.Decides.{nat_tests}
 use Rattle.std.proofs.lemmas.Bool.{false≢true, eqb-true, cases_lt, and_parts, or_cases}
@@ -13,7 +14,7 @@ use Rattle.operations.specs.declared.row.Sort.TheVariants.{Read, Write}
 use Rattle.lives.specs.Calls.{Event, Begun, Ended, Lost, Closed, Reopened, Surveyed, Refused}
 use Rattle.lives.specs.Words.{Start, start, of, same_sort, has_ticket, begun, ends, settled, waiting, next_tick, recording, operation, shown}
 use Rattle.lives.specs.Life.{SurveyRuleOf, Due, Life, ToldByClose, Belongs, EndAt, Law, LivesLawful}
-use Rattle.lives.proofs.Filters.{and_comm, kept_never, kept_same, kept_twice, kept_fewer}
+use Rattle.lives.proofs.Filters.{and_comm, kept_never, kept_twice, kept_fewer}
 use Rattle.lives.proofs.Lawful.{Lawful, lawful, begin_one, ended_due, lost_due, closed_due}
 
 same_sort_is : (k j : Sort) → same_sort k j ≡ true → j ≡ k
@@ -34,7 +35,7 @@ one_of k c t bs (x ∷ []) e n w =
     let P : List Start → Type 0 = λ l. All (λ z. of c t z ≡ true) l in
     let q = and_parts (eqb c x.cabinet) (eqb t x.tick) (subst P e (kept_by_passes (of c t) bs)).0 in
     let S : Start → Bool = λ z. same_sort k z.sort in
-    let m : filter (has_ticket k c t) bs ≡ filter S (x ∷ []) = kept_same (has_ticket k c t) (λ z. S z && of c t z) (λ z. and_comm (of c t z) (S z)) bs ∙ (kept_twice S (of c t) bs ∙ ap (filter S) e) in
+    let m : filter (has_ticket k c t) bs ≡ filter S (x ∷ []) = filter_agree (has_ticket k c t) (λ z. S z && of c t z) (λ z. and_comm (of c t z) (S z)) bs ∙ (kept_twice S (of c t) bs ∙ ap (filter S) e) in
     let u : 0 < length (cond (S x) (x ∷ []) []) = subst (λ l. 0 < length l) m w in
     (x.bay, e ∙ (λ i. start (same_sort_is k x.sort (kept_some (S x) x u) i) (sym (eqb-true c x.cabinet q.0) i) x.bay (sym (eqb-true t x.tick q.1) i) ∷ []))
 
@@ -117,7 +118,7 @@ module _ {V : Type 0} (rule : SurveyRuleOf V) (first entries : ℕ) where
   waits_open es k c t false e w = refl
   waits_open es k c t true e w =
       let u : Start → Bool = λ x. not (settled es x.cabinet x.tick) in
-      let n : filter (has_ticket k c t) (waiting es) ≡ [] = sym (kept_twice (has_ticket k c t) u (begun es)) ∙ (kept_same (λ x. has_ticket k c t x && u x) (λ _. false) (λ x. never_at es k c t e x (has_ticket k c t x) refl) (begun es) ∙ kept_never (begun es)) in
+      let n : filter (has_ticket k c t) (waiting es) ≡ [] = sym (kept_twice (has_ticket k c t) u (begun es)) ∙ (filter_agree (λ x. has_ticket k c t x && u x) (λ _. false) (λ x. never_at es k c t e x (has_ticket k c t x) refl) (begun es) ∙ kept_never (begun es)) in
       absurd (omega (arith, ap length n))
 
   settles_once : (es : List (Event V)) (k : Sort) (a n c t : ℕ) → 0 < length (filter (has_ticket k a n) (waiting es)) → ((eqb a c && eqb n t) || false) ≡ true → settled es c t ≡ false

@@ -1,5 +1,6 @@
 -- What holds at every point of a life, as the induction over its calls needs it. Assumes nothing.
 use Rattle.std.proofs.Common.{◌≡◌, ℕ, ◌+◌, ◌<◌, ◌≤◌, Bool, true, false, cond, not, ◌&&◌, ◌||◌, eqb, List, [], ◌∷◌, map, length, filter, sym, refl, ap, ◌∙◌, subst, ⊎_elim, arith, length-append}
+use Rattle.std.proofs.lemmas.List.Elements.{filter_agree}
 use Rattle.std.proofs.lemmas.List.Filters.{length-filter_both}
 use Rattle.std.proofs.lemmas.List.{length-map}
 use Rattle.std.proofs.lemmas.Bool.Decides.{nat_tests}
@@ -8,7 +9,7 @@ use Rattle.operations.specs.declared.row.Sort.{Sort}
 use Rattle.lives.specs.Calls.{Event, Begun, Ended, Lost, Closed, Reopened, Surveyed, Refused}
 use Rattle.lives.specs.Words.{Start, start, on, of, same_sort, has_ticket, begun, begins, ends, losses, settled, waiting, next_tick, recording, operation, shown}
 use Rattle.lives.specs.Life.{SurveyRuleOf, Due, Life}
-use Rattle.lives.proofs.Filters.{not_or, kept_same, kept_twice, kept_fewer, kept_and_fewer}
+use Rattle.lives.proofs.Filters.{not_or, kept_twice, kept_fewer, kept_and_fewer}
 
 pub record Lawful {V : Type 0} (first : ℕ) (es : List (Event V)) : Type 0 where
   -- nothing has a tick that is still to come
@@ -85,7 +86,7 @@ module _ {V : Type 0} (first : ℕ) (es : List (Event V)) (h : Lawful first es) 
 
   pub settled_rest : filter (λ b. not (of c t b || settled es b.cabinet b.tick)) (begun es) ≡ rest
   settled_rest =
-      kept_same (λ b. not (of c t b || settled es b.cabinet b.tick)) (λ b. not (of c t b) && not (settled es b.cabinet b.tick)) (λ b. not_or (of c t b) (settled es b.cabinet b.tick)) (begun es)
+      filter_agree (λ b. not (of c t b || settled es b.cabinet b.tick)) (λ b. not (of c t b) && not (settled es b.cabinet b.tick)) (λ b. not_or (of c t b) (settled es b.cabinet b.tick)) (begun es)
       ∙ kept_twice (λ b. not (of c t b)) (λ b. not (settled es b.cabinet b.tick)) (begun es)
 
   pub rest_less : length (waiting es) ≡ length rest + 1

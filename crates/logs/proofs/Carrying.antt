@@ -1,6 +1,7 @@
 -- Each call carries on the lives that led to its storage. Assumes nothing.
 use Rattle.std.proofs.Common.{◌≡◌, ℕ, ◌<◌, ◌≤◌, Bool, true, false, cond, not, ◌&&◌, eqb, ltb, ◌≢◌, List, [], ◌∷◌, ◌++◌, map, length, get_or, set, Some, None, Ok, Err, filter, Result, sym, refl, ap, ◌∙◌, subst, ⊎_elim, arith, get_or-set_other, get_or-set_same}
 use lib.ListN.{get_or-eq_default}
+use Rattle.std.proofs.lemmas.List.Elements.{filter_agree}
 use Rattle.std.proofs.lemmas.List.{nil_from_length}
 use Rattle.std.proofs.lemmas.Bool.{eqb-true, eqb-false, eq-eqb, cases_lt}
 use Rattle.std.proofs.lemmas.Bool.Decides.{nat_tests}
@@ -14,7 +15,7 @@ use Rattle.lives.specs.Refusals.{log_refusal}
 use Rattle.lives.specs.Rules.{tally, begin_checks, ticket_checks}
 use Rattle.lives.specs.Words.{Start, start, on, of, same_sort, has_ticket, begun, ends, settled, waiting, some, next_tick, recording, operation, shown}
 use Rattle.lives.specs.declared.refusal.LogRefusal.{LogRefusal}
-use Rattle.lives.proofs.Filters.{and_comm, kept_same, kept_twice, kept_swap, kept_whole}
+use Rattle.lives.proofs.Filters.{and_comm, kept_twice, kept_swap, kept_whole}
 use Rattle.lives.proofs.Lawful.{Lawful, lawful, begun_due, begun_waiting, of_one, begin_one, rest, rest_less, settled_rest}
 use Rattle.logs.specs.declared.cabinet.Cabinet.{Cabinet}
 use Rattle.logs.specs.declared.cabinet.Cabinet.TheVariants.{Idle, Reading, Writing}
@@ -51,10 +52,10 @@ ticket_parts true y z = sym (and_comm (y && z) true)
 ticket_parts false y z = and_comm false (y && z)
 
 kept_ticket : (k : Sort) (c t : ℕ) (ws : List Start) → filter (has_ticket k c t) ws ≡ filter (at k t) (filter (on c) ws)
-kept_ticket k c t ws = kept_same (has_ticket k c t) (λ b. at k t b && on c b) (λ b. ticket_parts (on c b) (eqb t b.tick) (same_sort k b.sort)) ws ∙ kept_twice (at k t) (on c) ws
+kept_ticket k c t ws = filter_agree (has_ticket k c t) (λ b. at k t b && on c b) (λ b. ticket_parts (on c b) (eqb t b.tick) (same_sort k b.sort)) ws ∙ kept_twice (at k t) (on c) ws
 
 kept_of : (c t : ℕ) (ws : List Start) → filter (of c t) ws ≡ filter (λ b. eqb t b.tick) (filter (on c) ws)
-kept_of c t ws = kept_same (of c t) (λ b. eqb t b.tick && on c b) (λ b. and_comm (on c b) (eqb t b.tick)) ws ∙ kept_twice (λ b. eqb t b.tick) (on c) ws
+kept_of c t ws = filter_agree (of c t) (λ b. eqb t b.tick && on c b) (λ b. and_comm (on c b) (eqb t b.tick)) ws ∙ kept_twice (λ b. eqb t b.tick) (on c) ws
 
 -- what another cabinet holds is not of this one
 other_holding : (c d t : ℕ) (x : Cabinet) → eqb c d ≡ false → filter (λ b. not (of c t b)) (holding d x) ≡ holding d x

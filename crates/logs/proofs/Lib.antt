@@ -1,4 +1,3 @@
 pub mod Holding
 pub mod Carrying
-pub mod Telling
 pub mod Surveying

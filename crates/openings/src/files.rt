@@ -30,22 +30,23 @@ impl File {
         }
     }
 
-    // A file of so many equal words.
-    pub fn of_words(heap: Global, count: usize, word: u32) -> Result<File, AllocError> {
+    // A file of the same words, so many times.
+    fn of(heap: Global, count: usize, words: &[u32]) -> Result<File, AllocError> {
         let mut file = File::new(heap);
         for _ in 0..count {
-            file.push(word)?;
+            file.push_all(words)?;
         }
         Ok(file)
     }
 
+    // A file of so many equal words.
+    pub fn of_words(heap: Global, count: usize, word: u32) -> Result<File, AllocError> {
+        File::of(heap, count, &[word])
+    }
+
     // A table of so many equal writes.
     pub fn of_writes(heap: Global, count: usize) -> Result<File, AllocError> {
-        let mut file = File::new(heap);
-        for _ in 0..count {
-            file.push_all(&WRITE)?;
-        }
-        Ok(file)
+        File::of(heap, count, &WRITE)
     }
 
     pub fn push(&mut self, word: u32) -> Result<(), AllocError> {
@@ -59,7 +60,7 @@ impl File {
         Ok(())
     }
 
-    // The same file with another word at a place; a place past the end is left.
+    // The same file with another word at a place, as far as the file has bytes there.
     pub fn with(mut self, place: usize, word: u32) -> File {
         let start = place.saturating_mul(4);
         for (byte, other) in self.bytes.iter_mut().skip(start).zip(word.to_be_bytes()) {

@@ -86,8 +86,8 @@ impl<'a, V: Written> fmt::Display for Made<'a, V> {
     fn fmt<W: fmt::Write>(&self, f: &mut fmt::Formatter<W>) -> fmt::Result {
         let call = self.call;
         match self.answer {
-            Ok(accepted) => write!(f, "{call}: {accepted}\n"),
-            Err(refusal) => write!(f, "{call}: {refusal}\n"),
+            Ok(accepted) => writeln!(f, "{call}: {accepted}"),
+            Err(refusal) => writeln!(f, "{call}: {refusal}"),
         }
     }
 }
@@ -122,7 +122,7 @@ impl<'a, V: Written> fmt::Display for Unmade<'a, V> {
 
     fn fmt<W: fmt::Write>(&self, f: &mut fmt::Formatter<W>) -> fmt::Result {
         match self.calls.first() {
-            Some(call) => write!(f, "stopped at {call}\n"),
+            Some(call) => writeln!(f, "stopped at {call}"),
             None => Ok(()),
         }
     }
