@@ -35,13 +35,6 @@ module _ (ops : List Operation) (b limit : ℕ) (sheet : List ℕ) where
     past_8 : first_failed (judge_checks ops b limit (length sheet)) ≡ first_failed from_9
     past_8 = cond-true (leb b 63) (first_failed from_9) (Some (refusal 8 b Judge)) (le-leb b 63 is-bay)
 
-    pub refused_9 : (limit ≡ 0) ⊎ (1000000 < limit) → Judged ops b limit sheet sheet (Err (NoLimit limit))
-    refused_9 h = (refl, inl (past_8 ∙ cond-false (leb 1 limit && leb limit 1000000) (first_failed from_10) (Some (refusal 9 limit Judge)) (out h)))
-      where
-        out : (limit ≡ 0) ⊎ (1000000 < limit) → (leb 1 limit && leb limit 1000000) ≡ false
-        out (inl e) = and_left (leb 1 limit) (leb limit 1000000) (lt-leb 1 limit (omega arith))
-        out (inr l) = and_right (leb 1 limit) (leb limit 1000000) (lt-leb limit 1000000 l)
-
     module _ (least : 1 ≤ limit) (most : limit ≤ 1000000) where
       past_9 : first_failed (judge_checks ops b limit (length sheet)) ≡ first_failed from_10
       past_9 = past_8 ∙ cond-true (leb 1 limit && leb limit 1000000) (first_failed from_10) (Some (refusal 9 limit Judge)) (and_from _ _ (le-leb 1 limit least) (le-leb limit 1000000 most))

@@ -3,7 +3,8 @@ use Rattle.std.proofs.lemmas.List.{get_or-take, map-append, take_more, length-ta
 use Rattle.gathering.specs.Spans.{spans}
 use Rattle.gathering.specs.Writes.{places}
 use Rattle.trying.specs.Trying.{placed}
-use Rattle.trying.proofs.Masked.{blank, write_place}
+use Rattle.gathering.proofs.Blank.{blank}
+use Rattle.trying.proofs.Masked.{write_place}
 use Rattle.trying.proofs.judge.placed.Goals as goal
 
 pub loop-rank-preserved : goal.loop-rank-preserved
