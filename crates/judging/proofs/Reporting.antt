@@ -1,6 +1,6 @@
 -- What a judge reports and refuses, from what is found of the rows. Assumes nothing.
-use Rattle.std.proofs.Common.{◌≡◌, ℕ, ◌<◌, ◌≤◌, Bool, false, ◌&&◌, leb, ◌⊎◌, List, ◌∷◌, ◌++◌, length, drop, Some, Ok, Err, sym, refl, ap, ◌∙◌, inl, inr, arith}
-use Rattle.std.proofs.lemmas.Bool.{cond-true, cond-false, le-leb, lt-leb, and_from, and_left, and_right}
+use Rattle.std.proofs.Common.{◌≡◌, ℕ, ◌<◌, ◌≤◌, Bool, ◌&&◌, leb, List, ◌∷◌, ◌++◌, length, drop, Some, Ok, Err, sym, refl, ap, ◌∙◌, inl, inr, arith}
+use Rattle.std.proofs.lemmas.Bool.{cond-true, cond-false, le-leb, lt-leb, and_from}
 use Rattle.bays.proofs.Ages.{least_age}
 use Rattle.bays.proofs.Passing.{some_tally}
 use Rattle.lists.specs.Lists.{listed}
@@ -12,7 +12,7 @@ use Rattle.orders.specs.Orders.{Operation, writes}
 use Rattle.orders.proofs.LeastAges.{value_orders_are_lawful_orders}
 use Rattle.trying.specs.declared.order.BayOrder.{BayOrder}
 use Rattle.judging.specs.declared.refusal.JudgeRefusal.{JudgeRefusal}
-use Rattle.judging.specs.declared.refusal.JudgeRefusal.TheVariants.{NoBay, NoLimit, ShortSheet, TooMany}
+use Rattle.judging.specs.declared.refusal.JudgeRefusal.TheVariants.{NoBay, ShortSheet, TooMany}
 use Rattle.judging.specs.Checks.{bay_checks, judge_checks}
 use Rattle.judging.specs.Judging.{Judged}
 use Rattle.judging.specs.Rows.{RowsJudged}

@@ -1,6 +1,6 @@
 -- The edges by rank are those between the writes of the bay. Assumes nothing.
 use Rattle.std.proofs.Common.{◌≡◌, ℕ, zero, suc, ◌<◌, Bool, true, false, not, ◌&&◌, eqb, ltb, ◌⊎◌, List, [], ◌∷◌, length, get_or, Some, None, Option, sym, refl, ap, ◌∙◌, subst, ap₂, inl, inr, arith}
-use Rattle.std.proofs.lemmas.List.{length-map, get_or-map, take_all}
+use Rattle.std.proofs.lemmas.List.{get_or-map, take_all}
 use Rattle.std.proofs.lemmas.Bool.{cases_eq, eq-eqb, ne_eqb, lt-ltb, ltb-true, and_parts, and_from, both_ways}
 use Rattle.orders.specs.Orders.{Operation, at, before, reads, soonest, shortened, of_bay, write_edge, read_edge, Distinct}
 use Rattle.orders.specs.Places.{some}

@@ -1,4 +1,4 @@
-use Rattle.std.proofs.Common.{None, sym, ◌∙◌, arith, below_more}
+use Rattle.std.proofs.Common.{sym, ◌∙◌, arith, below_more}
 use Rattle.gathering.proofs.Blank.{blank}
 use Rattle.gathering.proofs.Ranked.{write_below, same_write}
 use Rattle.gathering.proofs.writes.rank_of.Goals as goal
