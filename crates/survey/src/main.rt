@@ -5,7 +5,7 @@ use folders::failed::Failed;
 use folders::folder::Folder;
 use folders::saying::say;
 use summaries::summary::summary;
-use trying::judge::MOST_TRIALS;
+use surveying::survey::MOST_TRIALS;
 use values::serial::Serial;
 
 fn told(rt: &HostRuntime) -> Result<String, Failed> {

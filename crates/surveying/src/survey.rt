@@ -11,7 +11,9 @@ use crate::sparing::spare;
 use operations::copying::copy;
 use operations::room::MOST_OPERATIONS;
 use operations::source::Source;
-use trying::judge::MOST_TRIALS;
+
+// The largest limit on trials.
+pub const MOST_TRIALS: u32 = 1_000_000;
 
 // Surveys every bay of the source, with no more trials than the limit in all. An accepted survey leaves its findings on the desk.
 pub fn survey<S: Source>(
