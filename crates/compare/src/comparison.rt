@@ -5,7 +5,6 @@ use crate::faults::refusal;
 use crate::lawful::least_age;
 use crate::run_ups::{Found, Write};
 use crate::sequences::{Sequence, all};
-use gathering::write::MOST_WRITES;
 use judging::judge::judge;
 use judging::judgment::Judgment;
 use judging::refusal::JudgeRefusal;
@@ -14,6 +13,9 @@ use operations::row::Row;
 use std::alloc::{AllocError, Global};
 use tables::table::Table;
 use values::serial::Serial;
+
+// How many entries a sheet has.
+const ENTRIES: usize = 64;
 
 // What an entry has that nobody wrote.
 const UNTOUCHED: usize = 99;
@@ -95,8 +97,8 @@ impl Comparison {
 
     // What the definitions and the judge say of a bay and leave on the sheet, where that is the same.
     pub fn agreed(&mut self, sample: &Sample) -> Result<Option<Answer>, AllocError> {
-        let mut wanted = [UNTOUCHED; MOST_WRITES];
-        let mut sheet = [UNTOUCHED; MOST_WRITES];
+        let mut wanted = [UNTOUCHED; ENTRIES];
+        let mut sheet = [UNTOUCHED; ENTRIES];
         let expected = self.expected(sample, &mut wanted)?;
         let given = self.given(sample, &mut sheet)?;
         let agree = expected == given && wanted == sheet;

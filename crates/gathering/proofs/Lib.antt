@@ -1,8 +1,9 @@
+pub mod Blank
 mod Ranked
 mod Lows
 mod Wrote
 mod Spanned
-mod Seen
+pub mod Seen
 mod Noted
 pub mod Keeping
 pub mod Spared

@@ -31,7 +31,8 @@ module _ (ops : List Operation) (b : ℕ) where
   }
 
   module _ (n : ℕ) (ws : List Span) (seen : Seen ops b n ws) where
-    count : length ws ≡ length (write_places ops b)
+    -- as many as the bay has
+    pub count : length ws ≡ length (write_places ops b)
     count = sym (length-map ws (λ w. w.place)) ∙ ap length seen.ranked
 
     pub place_of : (i : ℕ) (d : Span) → i < length ws → (get_or ws i d).place ≡ get_or (write_places ops b) i 0

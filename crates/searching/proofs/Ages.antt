@@ -2,7 +2,7 @@
 use Rattle.std.proofs.Common.{◌≡◌, ℕ, zero, suc, ◌+◌, ◌-◌, ◌<◌, ◌≤◌, ltb, sym, subst, ⊎_elim, arith}
 use Rattle.std.proofs.lemmas.Bool.{cases_eq, cases_lt}
 use Rattle.orders.specs.RunUps.{Graph, Trials, TrialsUpTo, NoneFor, NoneBelow}
-use Rattle.searching.proofs.Members.{position_in}
+use Rattle.orders.proofs.Sequences.{position_in}
 use Rattle.searching.proofs.Indices.{run_up_few}
 
 module _ (g : Graph) where

@@ -4,6 +4,7 @@ use mathlib.Core.Option.{none, some}
 use mathlib.Core.List.{reverse_aux, reverse-reverse}
 use lib.ListN.{length-reverse}
 use Rattle.std.proofs.lemmas.Bool.{cases_eq, eq-eqb, ne_eqb}
+use Rattle.orders.proofs.Unique.{comes_once}
 use Rattle.orders.specs.RunUps.{Graph, RunUp, ValueOrder, Comes, In, Ascending, Trials, First, NoneFor}
 use Rattle.searching.specs.Masks.{mask_graph}
 use Rattle.searching.proofs.Indices.{Into, From, indexed, unindexed, run_up_few, order_length, full_order}
@@ -12,18 +13,8 @@ use Rattle.searching.proofs.Enumeration.{below, trials, first}
 use Rattle.searching.proofs.Holding.{in_mapped, mapped_in}
 use Rattle.searching.proofs.Listing.{Asc, below_asc, below_good, below_all, below_ext}
 
-pub comes_asym : (p q : List ℕ) → Comes p q → Comes q p → ⊥
-comes_asym [] [] a b = a
-comes_asym [] (y ∷ q) a b = b
-comes_asym (x ∷ p) [] a b = a
-comes_asym (x ∷ p) (y ∷ q) a b =
-    ⊎_elim
-    (λ l. ⊎_elim (λ r. omega arith) (λ r. let e = r.0 in omega arith) b)
-    (λ l. let e = l.0 in ⊎_elim (λ r. omega arith) (λ r. comes_asym p q l.1 r.1) b)
-    a
-
 pub not_self : (p : List ℕ) → Comes p p → ⊥
-not_self p b = comes_asym p p b b
+not_self p b = comes_once p p b b
 
 module _ (n : ℕ) where
   upto : List (List ℕ) → List (List ℕ)
@@ -88,7 +79,7 @@ module _ (n : ℕ) where
       own is k b =
           ⊎_elim
           (λ same. not_self x (subst₂ Comes same is b))
-          (λ z. comes_asym x q (a.0 q z) (subst (Comes q) is b))
+          (λ z. comes_once x q (a.0 q z) (subst (Comes q) is b))
           k
 
   upto_all : (s : List (List ℕ)) → Ascending s → (p : List ℕ) → In p s → ((q : List ℕ) → In q s → length q ≡ n → Comes q p → ⊥) → In p (upto s)
@@ -112,7 +103,7 @@ module _ (n : ℕ) where
         λ q m g b.
             ⊎_elim
             (λ same. not_self x (subst₂ Comes same (sym is) b))
-            (λ z. comes_asym x q (a.0 q z) (subst (Comes q) (sym is) b))
+            (λ z. comes_once x q (a.0 q z) (subst (Comes q) (sym is) b))
             m,
       )))
       (λ f. rw (ne_eqb (length x) n f) (λ e.

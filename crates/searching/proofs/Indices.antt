@@ -5,7 +5,8 @@ use Rattle.std.proofs.lemmas.Bool.{cases_eq, cases_lt, eq-eqb, eqb-true, lt-ltb,
 use Rattle.orders.specs.Places.{bit, times, position}
 use Rattle.orders.specs.RunUps.{Graph, RunUp, ValueOrder}
 use Rattle.searching.specs.Masks.{mask_graph}
-use Rattle.searching.proofs.Members.{Diff, position_in, in_position, at_position, times_at, position_at, different_once, once_different, length_total, total_few, total_ones, ones_total}
+use Rattle.orders.proofs.Sequences.{position_in, in_position, length_total}
+use Rattle.searching.proofs.Members.{Diff, at_position, times_at, position_at, different_once, once_different, total_few, total_ones, ones_total}
 use Rattle.searching.proofs.BitSets.{Has}
 
 -- W u v is a write edge from u to v, R u v a read edge; the writes are the numbers below n

@@ -1,8 +1,8 @@
 -- A sequence of places by its indices: how often it holds a place, where, and how long it is.
-use Rattle.std.proofs.Common.{◌≡◌, ℕ, zero, suc, ◌+◌, ◌<◌, ◌≤◌, eqb, ltb, List, [], ◌∷◌, length, get_or, sym, refl, ap, ◌∙◌, subst, ⊎_elim, arith}
-use Rattle.std.proofs.lemmas.Bool.{cases_eq, eq-eqb, ne_eqb, lt-ltb}
-use Rattle.std.proofs.lemmas.Bool.Decides.{nat_tests}
+use Rattle.std.proofs.Common.{◌≡◌, ℕ, zero, suc, ◌<◌, ◌≤◌, List, [], ◌∷◌, length, get_or, sym, refl, ap, ◌∙◌, subst, ⊎_elim, arith}
+use Rattle.std.proofs.lemmas.Bool.{cases_eq, eq-eqb, ne_eqb}
 use Rattle.orders.specs.Places.{bit, total, times, position}
+use Rattle.orders.proofs.Sequences.{position_in}
 
 -- no two entries are equal
 abbrev pub Diff : List ℕ → Type 0
@@ -10,14 +10,6 @@ Diff l = (i j : ℕ) → i < j → j < length l → get_or l i 0 ≡ get_or l j 
 
 pub diff_tail : (x : ℕ) (xs : List ℕ) → Diff (x ∷ xs) → Diff xs
 diff_tail x xs d i j l h e = d (suc i) (suc j) (omega arith) (omega arith) e
-
-pub position_in : (l : List ℕ) (p : ℕ) → 0 < times p l → position l p < length l
-position_in [] p h = absurd (omega arith)
-position_in (x ∷ xs) p h = let more = λ (k : 0 < times p xs). position_in xs p k in grind (arith, nat_tests)
-
-pub in_position : (l : List ℕ) (p : ℕ) → position l p < length l → 0 < times p l
-in_position [] p h = absurd (omega arith)
-in_position (x ∷ xs) p h = let more = λ (k : position xs p < length xs). in_position xs p k in grind (arith, nat_tests)
 
 pub at_position : (l : List ℕ) (p : ℕ) → 0 < times p l → get_or l (position l p) 0 ≡ p
 at_position [] p = λ h. absurd (omega arith)
@@ -56,27 +48,6 @@ once_different (x ∷ xs) h zero (suc j) l m e =
     omega (arith, h x, ap bit (eq-eqb x x refl), subst (λ y. 0 < times y xs) (sym e) (times_at xs j (omega arith)))
 once_different (x ∷ xs) h (suc i) zero l m e = omega arith
 once_different (x ∷ xs) h (suc i) (suc j) l m e = once_different xs (λ p. omega (arith, h p)) i j (omega arith) (omega arith) e
-
-total_add : (n : ℕ) (f g : ℕ → ℕ) → total n (λ p. f p + g p) ≡ total n f + total n g
-total_add zero f g = refl
-total_add (suc n) f g = let more = total_add n f g in omega arith
-
-total_zero : (n : ℕ) → total n (λ _. 0) ≡ 0
-total_zero zero = refl
-total_zero (suc n) = let more = total_zero n in omega arith
-
-total_point : (n x : ℕ) → total n (λ p. bit (eqb x p)) ≡ bit (ltb x n)
-total_point zero x = grind (arith, nat_tests)
-total_point (suc n) x = let more = total_point n x in grind (arith, nat_tests)
-
--- the length is the sum of how often each place stands
-pub length_total : (n : ℕ) (l : List ℕ) → ((p : ℕ) → 0 < times p l → p < n) → length l ≡ total n (λ p. times p l)
-length_total n [] h = sym (total_zero n)
-length_total n (x ∷ xs) h =
-    let more : length xs ≡ total n (λ p. times p xs) = length_total n xs (λ p m. h p (omega arith)) in
-    let both = total_add n (λ p. bit (eqb x p)) (λ p. times p xs) in
-    let own : bit (ltb x n) ≡ 1 = ap bit (lt-ltb x n (h x (omega (arith, ap bit (eq-eqb x x refl))))) in
-    omega (arith, total_point n x)
 
 pub total_few : (n : ℕ) (f : ℕ → ℕ) → ((p : ℕ) → f p ≤ 1) → total n f ≤ n
 total_few zero f h = omega arith

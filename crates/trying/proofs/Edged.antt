@@ -1,6 +1,6 @@
 -- The edges by rank are those between the writes of the bay. Assumes nothing.
 use Rattle.std.proofs.Common.{◌≡◌, ℕ, zero, suc, ◌<◌, Bool, true, false, not, ◌&&◌, eqb, ltb, ◌⊎◌, List, [], ◌∷◌, length, get_or, Some, None, Option, sym, refl, ap, ◌∙◌, subst, ap₂, inl, inr, arith}
-use Rattle.std.proofs.lemmas.List.{length-map, get_or-map, take_all}
+use Rattle.std.proofs.lemmas.List.{get_or-map, take_all}
 use Rattle.std.proofs.lemmas.Bool.{cases_eq, eq-eqb, ne_eqb, lt-ltb, ltb-true, and_parts, and_from, both_ways}
 use Rattle.orders.specs.Orders.{Operation, at, before, reads, soonest, shortened, of_bay, write_edge, read_edge, Distinct}
 use Rattle.orders.specs.Places.{some}
@@ -9,6 +9,7 @@ use Rattle.bays.specs.Writes.{write_places}
 use Rattle.bays.proofs.Ranks.{places_apart}
 use Rattle.gathering.specs.Spans.{Span}
 use Rattle.gathering.specs.Gathering.{LastRead, AsLeft, Seen}
+use Rattle.gathering.proofs.Seen.{count}
 use Rattle.trying.specs.Edges.{before_last, is_into, is_from}
 use Rattle.trying.proofs.Masked.{finish_at, last_at}
 
@@ -41,9 +42,6 @@ some_read ops o w last l = go (some (length ops) test) refl last l
     go false e None l = e
 
 module _ (ops : List Operation) (b : ℕ) (ws : List Span) (seen : Seen ops b (length ops) ws) where
-  pub count : length ws ≡ length (write_places ops b)
-  count = sym (length-map ws (λ w. w.place)) ∙ ap length seen.ranked
-
   module _ (dist : Distinct ops (of_bay b)) where
     -- the write of a rank is the one at its place, shortened
     module _ (i : ℕ) (w : Span) (h : i < length ws) (stands : w ≡ get_or ws i w) where
@@ -71,7 +69,7 @@ module _ (ops : List Operation) (b : ℕ) (ws : List Span) (seen : Seen ops b (l
         where
           go : ((i ≡ j) ⊎ (i ≡ j → ⊥)) → eqb j i ≡ eqb (get_or (write_places ops b) i 0) (get_or (write_places ops b) j 0)
           go (inl s) = eq-eqb j i (sym s) ∙ sym (eq-eqb _ _ (ap (λ x. get_or (write_places ops b) x 0) s))
-          go (inr d) = ne_eqb j i (λ s. d (sym s)) ∙ sym (ne_eqb _ _ (places_apart ops b i j (omega (arith, count)) (omega (arith, count)) d))
+          go (inr d) = ne_eqb j i (λ s. d (sym s)) ∙ sym (ne_eqb _ _ (places_apart ops b i j (omega (arith, count ops b (length ops) ws seen)) (omega (arith, count ops b (length ops) ws seen)) d))
 
       pub from_is : is_from ws i v j ≡ read_edge ops (get_or (write_places ops b) i 0) (get_or (write_places ops b) j 0)
       from_is =

@@ -1,20 +1,14 @@
 -- Masks with one bit more. Assumes nothing.
-use Rattle.std.proofs.Common.{◌≡◌, ℕ, ◌+◌, ◌%◌, ◌^◌, ◌<◌, ◌≤◌, Bool, true, false, ◌&&◌, ◌||◌, eqb, ltb, ◌⊎◌, List, [], ◌∷◌, ◌++◌, length, get_or, None, sym, refl, ap, ◌∙◌, subst, inl, inr, arith}
-use native.Mathlib.Nat.{zero-div}
+use Rattle.std.proofs.Common.{◌≡◌, ℕ, ◌+◌, ◌<◌, ◌≤◌, Bool, true, false, ◌&&◌, ◌||◌, eqb, ltb, ◌⊎◌, List, [], ◌∷◌, ◌++◌, length, get_or, None, sym, refl, ap, ◌∙◌, subst, inl, inr, arith}
 use Rattle.std.proofs.lemmas.List.{get_or_default, get_or-map, length-map}
 use Rattle.std.proofs.lemmas.Bool.{cases_order, eq-eqb, ne_eqb, lt-ltb, le-ltb}
 use Rattle.operations.proofs.Checks.{each_push}
-use Rattle.operations.specs.declared.row.Sort.TheVariants.{Read}
 use Rattle.searching.specs.declared.edges.EdgeMasks.{EdgeMasks}
 use Rattle.masks.specs.Masks.{has_bit, Added}
 use Rattle.gathering.specs.Spans.{Span, span, spans, started}
 use Rattle.gathering.specs.declared.write.Write.{Write}
 use Rattle.gathering.specs.Writes.{places}
 use Rattle.trying.specs.Edges.{Bits, finishes, last_reads, is_into, is_from, EdgesAt, EdgesOf}
-
--- what a list of writes has where it has none
-abbrev pub blank : Write
-blank = record { place = 0; row = record { sort = Read; bay = 0; cabinet = 0; value = tt; start = 0; finish = 0 }; last_read = None }
 
 -- the finish and the last read of what stands at a rank
 module _ (ws : List Span) (i : ℕ) (d : Span) (h : i < length ws) where
@@ -37,10 +31,6 @@ module _ (ws : List Write) (i : ℕ) (d : Write) (h : i < length ws) where
 
   pub write_last : get_or (last_reads (spans ws)) i None ≡ started (get_or ws i d).last_read
   write_last = last_at (spans ws) i (span d) within ∙ ap (λ s. s.last_read) (get_or-map span ws i d (span d) h)
-
--- 0 has no bit
-pub bits_none : (test : ℕ → Bool) → Bits 0 test 0
-bits_none test i = ap (λ n. eqb (n % 2) 1) (zero-div (2 ^ i)) ∙ ap (λ t. t && test i) (sym (le-ltb i 0 (omega arith)))
 
 module _ (n : ℕ) (test : ℕ → Bool) (mask : ℕ) (bits : Bits n test mask) where
   pub bits_at : (i : ℕ) → i < n → has_bit mask i ≡ test i

@@ -24,7 +24,8 @@ use Rattle.searching.proofs.Indices.{entry_below}
 use Rattle.searching.proofs.Renaming.{Renamed, none_renamed, none_below_renamed, trials_up_to_renamed, tried_renamed}
 use Rattle.trying.specs.Edges.{is_into, is_from}
 use Rattle.trying.specs.Trying.{placed, RanksUpTo, RanksSearched}
-use Rattle.trying.proofs.Edged.{ranked, count, into_is, from_is}
+use Rattle.gathering.proofs.Seen.{count}
+use Rattle.trying.proofs.Edged.{ranked, into_is, from_is}
 use Rattle.trying.proofs.Masked.{bits_at}
 
 -- ranks that the search found are ranks
@@ -43,9 +44,9 @@ module _ (ops : List Operation) (b : ℕ) (ws : List Span) (seen : Seen ops b (l
   renamed : (n : ℕ) → n ≡ length ws → Renamed (mask_graph n (befores s.edges) (behinds s.edges)) (bay_graph ops b) n (λ i. get_or (write_places ops b) i 0)
   renamed n e = record {
     ranks = λ i. refl;
-    rising = λ i j l h. places_rising ops b i j l (omega (arith, count ops b ws seen));
-    listed = λ i h. place_writes ops b i (omega (arith, count ops b ws seen));
-    only = λ p h. let x = write_listed ops b p h in (x.0, omega (arith, x.1, count ops b ws seen), x.2);
+    rising = λ i j l h. places_rising ops b i j l (omega (arith, count ops b (length ops) ws seen));
+    listed = λ i h. place_writes ops b i (omega (arith, count ops b (length ops) ws seen));
+    only = λ p h. let x = write_listed ops b p h in (x.0, omega (arith, x.1, count ops b (length ops) ws seen), x.2);
     write_edges = λ i j h l.
         let v = ranked ws i (omega arith) in
         let w = ranked ws j (omega arith) in
@@ -63,7 +64,7 @@ module _ (ops : List Operation) (b : ℕ) (ws : List Span) (seen : Seen ops b (l
 -- so the search over the masks is one over the writes of the bay
 module _ (ops : List Operation) (b : ℕ) (bay : Bay) (gathered : Gathered ops b bay) (limit : ℕ) where
   number : length (spans (listed bay.writes)) ≡ write_count ops b
-  number = count ops b (spans (listed bay.writes)) gathered.writes ∙ places_count ops b
+  number = count ops b (length ops) (spans (listed bay.writes)) gathered.writes ∙ places_count ops b
 
   -- a bay without a write
   pub judged_idle : length (spans (listed bay.writes)) ≡ 0 → (order : List ℕ) → order ≡ [] → BayJudged ops b 0 0 order × (0 ≤ limit) × (length order ≡ write_count ops b)

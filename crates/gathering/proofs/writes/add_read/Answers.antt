@@ -1,10 +1,9 @@
-use Rattle.std.proofs.Common.{◌≡◌, length, get_or, set, ltb, Some, None, refl, sym, ap, ◌∙◌, subst, arith}
+use Rattle.std.proofs.Common.{◌≡◌, length, get_or, set, ltb, Some, refl, sym, ap, ◌∙◌, subst, arith}
 use Rattle.std.proofs.lemmas.List.{get_or-map, length-map, map-set}
 use Rattle.std.proofs.lemmas.Result.{MatchResult-at_ok}
 use Rattle.bays.specs.Faults.{Lowest}
 use Rattle.orders.specs.Orders.{at}
 use Rattle.lists.specs.Lists.{listed}
-use Rattle.operations.specs.declared.row.Sort.TheVariants.{Read}
 use Rattle.relations.specs.Meanings.{meant, told}
 use Rattle.relations.proofs.Told.{told_at}
 use Rattle.gathering.specs.Spans.{span, spans}
@@ -12,11 +11,8 @@ use Rattle.gathering.specs.Writes.{same_value, read_by}
 use Rattle.operations.specs.Rows.{without_value}
 use Rattle.gathering.specs.Kept.{RowOf, AllKept}
 use Rattle.gathering.proofs.Keeping.{kept_set}
-use Rattle.gathering.specs.declared.write.Write.{Write}
+use Rattle.gathering.proofs.Blank.{blank}
 use Rattle.gathering.proofs.writes.add_read.Goals as goal
-
-abbrev blank : Write
-blank = record { place = 0; row = record { sort = Read; bay = 0; cabinet = 0; value = tt; start = 0; finish = 0 }; last_read = None }
 
 pub returns-clause-added : goal.returns-clause-added
 returns-clause-added g c =

@@ -1,11 +1,7 @@
-use Rattle.std.proofs.Common.{None, sym, ◌∙◌, arith, below_more}
-use Rattle.operations.specs.declared.row.Sort.TheVariants.{Read}
-use Rattle.gathering.specs.declared.write.Write.{Write}
+use Rattle.std.proofs.Common.{sym, ◌∙◌, arith, below_more}
+use Rattle.gathering.proofs.Blank.{blank}
 use Rattle.gathering.proofs.Ranked.{write_below, same_write}
 use Rattle.gathering.proofs.writes.rank_of.Goals as goal
-
-abbrev blank : Write
-blank = record { place = 0; row = record { sort = Read; bay = 0; cabinet = 0; value = tt; start = 0; finish = 0 }; last_read = None }
 
 pub bounds-rows-write : goal.bounds-rows-write
 bounds-rows-write g c = write_below g.V.Kind.meaning c.args.rows.now c.args.writes.now c.requires.0 c.loop-rank.rank blank c.loop-rank-test.true

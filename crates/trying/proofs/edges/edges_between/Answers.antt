@@ -5,7 +5,8 @@ use Rattle.lists.specs.Lists.{listed}
 use Rattle.searching.specs.declared.edges.EdgeMasks.{EdgeMasks}
 use Rattle.gathering.specs.Spans.{spans}
 use Rattle.trying.specs.Edges.{EdgesOf}
-use Rattle.trying.proofs.Masked.{blank, edges_more_write}
+use Rattle.gathering.proofs.Blank.{blank}
+use Rattle.trying.proofs.Masked.{edges_more_write}
 use Rattle.trying.proofs.edges.edges_between.Goals as goal
 
 pub loop-rank-preserved : goal.loop-rank-preserved

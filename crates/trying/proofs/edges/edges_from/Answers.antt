@@ -1,7 +1,8 @@
 use Rattle.std.proofs.Common.{◌≡◌, ◌≤◌, not, ◌&&◌, eqb, sym, ap, ◌∙◌, subst, arith}
 use Rattle.gathering.specs.Spans.{span, spans}
 use Rattle.trying.specs.Edges.{Bits, before_last, is_from}
-use Rattle.trying.proofs.Masked.{blank, write_last, bits_yes, bits_no}
+use Rattle.gathering.proofs.Blank.{blank}
+use Rattle.trying.proofs.Masked.{write_last, bits_yes, bits_no}
 use Rattle.trying.proofs.edges.edges_from.Goals as goal
 use Rattle.trying.proofs.edges.edges_from.Goals.{then-read_edge, else-read_edge}
 

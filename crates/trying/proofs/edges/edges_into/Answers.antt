@@ -1,7 +1,8 @@
 use Rattle.std.proofs.Common.{◌≡◌, ◌≤◌, ltb, sym, ap, ◌∙◌, subst, arith}
 use Rattle.gathering.specs.Spans.{span, spans}
 use Rattle.trying.specs.Edges.{Bits, is_into}
-use Rattle.trying.proofs.Masked.{blank, write_finish, bits_yes, bits_no}
+use Rattle.gathering.proofs.Blank.{blank}
+use Rattle.trying.proofs.Masked.{write_finish, bits_yes, bits_no}
 use Rattle.trying.proofs.edges.edges_into.Goals as goal
 use Rattle.trying.proofs.edges.edges_into.Goals.{then-before, else-before}
 

@@ -4,7 +4,8 @@ use Rattle.std.proofs.lemmas.Result.{MatchResult-at_ok}
 use Rattle.gathering.specs.Spans.{spans}
 use Rattle.gathering.specs.Writes.{places}
 use Rattle.trying.specs.Trying.{placed}
-use Rattle.trying.proofs.Masked.{blank, write_place}
+use Rattle.gathering.proofs.Blank.{blank}
+use Rattle.trying.proofs.Masked.{write_place}
 use Rattle.trying.proofs.judge.placed.Goals as goal
 
 pub loop-rank-preserved : goal.loop-rank-preserved
