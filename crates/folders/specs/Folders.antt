@@ -7,8 +7,8 @@ use Rattle.folders.specs.declared.folder.Folder.{Folder}
 use Rattle.reports.specs.Reporting.{OpenedTable}
 use Rattle.reports.specs.declared.unreported.Unreported.TheVariants.{NoMemory}
 
--- The table of some file is opened, which is read no further than one byte more than a table may have, and so is the list, than a
--- list may have; or that file's table is missing or refused; or a file cannot be read.
+-- The table of some file is opened, and of a list no more is kept than one byte more than a list may have; or some file's table is
+-- missing or refused; or a file cannot be read. Which file was read cannot be said.
 abbrev pub OpenedFolder : {V : Type 0} → (ℕ → Option V) → Result (Folder V) Failed → Type 0
 OpenedFolder reads (Ok folder) = ((file : Option (List ℕ)) × OpenedTable reads file (Ok folder.table)) × AtMost 2049 folder.list
 OpenedFolder reads (Err (Unreported why)) = (file : Option (List ℕ)) × OpenedTable reads file (Err why)

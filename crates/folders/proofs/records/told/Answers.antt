@@ -1,7 +1,6 @@
-use Rattle.std.proofs.Common.{Ok, Err, inr, subst}
+use Rattle.std.proofs.Common.{inr}
 use Rattle.std.proofs.lemmas.Result.{err_from_is_err_and}
-use Rattle.folders.proofs.Reports.{lent_contents, unopened}
-use Rattle.operations.specs.Rooms.{held}
+use Rattle.folders.proofs.Reports.{unopened}
 use Rattle.reports.specs.Reporting.{Accounted}
 use Rattle.folders.proofs.records.told.Goals as goal
 
@@ -14,11 +13,9 @@ pub returns-in_err-text : goal.returns-in_err-text
 returns-in_err-text g c =
     let p = err_from_is_err_and c.from_residual-in_err-text.result c.from_residual-in_err-text.ensures.1 in
     let folder = c.in_ok-folder.folder in
-    let same = lent_contents c.as_deref.result folder.list c.as_deref.ensures.value in
-    rw (p.1, p.2) (inr (folder, c.in_ok-folder.ensures, subst (λ file. Accounted g.K.Written.words (held folder.table.rows) file (Err c.in_err-text.field-0.0)) same c.in_err-text.ensures))
+    rw (p.1, p.2) (inr (folder, c.in_ok-folder.ensures, c.in_err-text.ensures))
 
 pub returns : goal.returns
 returns g c =
     let folder = c.in_ok-folder.folder in
-    let same = lent_contents c.as_deref.result folder.list c.as_deref.ensures.value in
-    (folder, c.in_ok-folder.ensures, subst (λ file. Accounted g.K.Written.words (held folder.table.rows) file (Ok c.in_ok-text.text)) same c.in_ok-text.ensures)
+    (folder, c.in_ok-folder.ensures, c.in_ok-text.ensures)
