@@ -37,6 +37,22 @@ impl<T: Copy, const PLACES: usize> ArrayList<T, PLACES> {
         }
     }
 
+    // Empties the list. Its places stay filled, so the next push fills none but its own.
+    pub fn clear(&mut self)
+        ensures { listed self.new ≡ [] }
+    {
+        self.len = 0;
+    }
+
+    // The first element fills all places. It stands apart because a function pays for its places of memory on every call.
+    fn push_first(&mut self, element: T)
+        requires { (0 < PLACES) × (listed self.old ≡ []) }
+        ensures { listed self.new ≡ element ∷ [] }
+    {
+        self.items = Some([element; PLACES]);
+        self.len = 1;
+    }
+
     // One more element at the end; where there is no place for it, it is handed back and nothing changes.
     pub fn push(&mut self, element: T) -> Result<(), T>
         ensures { MatchResult result
@@ -47,10 +63,12 @@ impl<T: Copy, const PLACES: usize> ArrayList<T, PLACES> {
             return Err(element);
         }
         match &mut self.items {
-            Some(places) => places[self.len] = element,
-            None => self.items = Some([element; PLACES]),
+            Some(places) => {
+                places[self.len] = element;
+                self.len += 1;
+            }
+            None => self.push_first(element),
         }
-        self.len += 1;
         Ok(())
     }
 
