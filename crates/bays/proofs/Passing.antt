@@ -1,6 +1,6 @@
 -- The places below a number that pass a test, in a list. Assumes nothing.
-use Rattle.std.proofs.Common.{◌≡◌, ℕ, zero, suc, ◌<◌, ◌≤◌, Bool, true, false, ◌||◌, ◌⊎◌, List, [], ◌∷◌, ◌++◌, length, get_or, sym, refl, ap, ◌∙◌, ap₂, inl, inr, append-nil, arith}
-use Rattle.std.proofs.lemmas.List.{length_push, get_or_push, get_or_append_left}
+use Rattle.std.proofs.Common.{◌≡◌, ℕ, zero, suc, ◌+◌, ◌<◌, ◌≤◌, Bool, true, false, cond, ◌||◌, ◌⊎◌, List, [], ◌∷◌, ◌++◌, length, get_or, take, set, sym, refl, ap, ◌∙◌, ap₂, inl, inr, append-nil, add-one, arith}
+use Rattle.std.proofs.lemmas.List.{length_push, get_or_push, get_or_append_left, take_more_set, length-take-le}
 use Rattle.std.proofs.lemmas.Bool.{cases_lt, cases_eq, or_from}
 use Rattle.orders.specs.Places.{bit, tally, some}
 use Rattle.bays.specs.Writes.{passing}
@@ -14,6 +14,11 @@ none_some (suc n) f h = or_from (f n) (some n f) (h n (omega arith)) (none_some 
 pub some_eq : (n : ℕ) (f g : ℕ → Bool) → ((p : ℕ) → p < n → f p ≡ g p) → some n f ≡ some n g
 some_eq zero f g h = refl
 some_eq (suc n) f g h = ap₂ ◌||◌ (h n (omega arith)) (some_eq n f g (λ p l. h p (omega arith)))
+
+-- and pass the same
+pub passing_eq : (n : ℕ) (f g : ℕ → Bool) → ((p : ℕ) → p < n → f p ≡ g p) → passing n f ≡ passing n g
+passing_eq zero f g h = refl
+passing_eq (suc n) f g h = ap₂ (λ (l : List ℕ) (b : Bool). l ++ cond b (n ∷ []) []) (passing_eq n f g (λ p l. h p (omega arith))) (h n (omega arith))
 
 -- a count of fewer places is no larger
 pub tally_rising : (n : ℕ) (f : ℕ → Bool) (i : ℕ) → i ≤ n → tally i f ≤ tally n f
@@ -100,3 +105,15 @@ some_tally n f h = let x = passing_is n f 0 (omega (arith, passing_length n f)) 
 -- and a place that passes is counted
 pub tally_some : (n : ℕ) (f : ℕ → Bool) (p : ℕ) → p < n → f p ≡ true → 0 < tally n f
 tally_some n f p h e = omega (arith, tally_rising n f (suc p) h, ap bit e)
+
+-- a loop that puts the passing places into the first places of a list
+module _ (f : ℕ → Bool) (list : List ℕ) (count p : ℕ) (so_far : take count list ≡ passing p f) where
+  pub gather_yes : f p ≡ true → count < length list → take (count + 1) (set list count p) ≡ passing (p + 1) f
+  gather_yes e h = take_more_set list count p h ∙ ap (λ l. l ++ (p ∷ [])) so_far ∙ sym (passing_yes p f e) ∙ ap (λ n. passing n f) (sym (add-one p))
+
+  pub gather_no : f p ≡ false → take count list ≡ passing (p + 1) f
+  gather_no e = so_far ∙ sym (passing_no p f e) ∙ ap (λ n. passing n f) (sym (add-one p))
+
+  -- one more passes than there is room for
+  pub gather_over : (n : ℕ) → f p ≡ true → p < n → count ≤ length list → count < tally n f
+  gather_over n e h l = omega (arith, tally_rising n f (suc p) h, ap bit e, passing_length p f, ap length so_far, length-take-le count list l)
