@@ -1,5 +1,5 @@
 -- The lowest place that passes a test, one place more at a time. Assumes nothing.
-use Rattle.std.proofs.Common.{◌≡◌, ℕ, ◌+◌, Bool, true, false, Some, None, Option, arith, below_more}
+use Rattle.std.proofs.Common.{◌≡◌, ℕ, ◌+◌, ◌<◌, ◌≤◌, Bool, true, false, is_some, Some, None, Option, sym, ◌∙◌, arith, below_more}
 use Rattle.std.specs.Option.{option_or}
 use Rattle.bays.specs.Faults.{Lowest}
 
@@ -12,3 +12,13 @@ module _ (test : ℕ → Bool) (n : ℕ) where
   pub lowest_no : (first : Option ℕ) → Lowest n test first → test n ≡ false → Lowest (n + 1) test first
   lowest_no (Some p) l e = (omega (arith, l.0), l.1, l.2)
   lowest_no None l e = below_more _ n l e
+
+  -- a place that was found is the lowest of more places too
+  pub lowest_found : (first : Option ℕ) → Lowest n test first → is_some first ≡ true → (k : ℕ) → n ≤ k → Lowest k test first
+  lowest_found (Some p) l e k h = (omega (arith, l.0), l.1, l.2)
+  lowest_found None l e k h = let z : ◌≡◌ {A = ℕ} 0 1 = cc in absurd (omega arith)
+
+-- tests that agree
+pub lowest_as : (n : ℕ) (f g : ℕ → Bool) (first : Option ℕ) → ((p : ℕ) → p < n → f p ≡ g p) → Lowest n f first → Lowest n g first
+lowest_as n f g (Some p) h l = (l.0, sym (h p l.0) ∙ l.1, λ q k. sym (h q (omega (arith, l.0))) ∙ l.2 q k)
+lowest_as n f g None h l = λ q k. sym (h q k) ∙ l q k

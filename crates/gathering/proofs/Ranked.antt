@@ -7,7 +7,7 @@ use Rattle.relations.specs.Meanings.{meant, told}
 use Rattle.relations.proofs.Told.{told_at}
 use Rattle.gathering.specs.Spans.{Span, span, spans}
 use Rattle.gathering.specs.declared.write.Write.{Write}
-use Rattle.gathering.specs.Writes.{same_value, PlacesBelow}
+use Rattle.gathering.specs.Writes.{places, same_value, PlacesBelow}
 
 module _ {V : Type 0} (m : V → ℕ × ℕ) (rows : List (Row V)) (ws : List Span) (below : PlacesBelow (length rows) ws) (i : ℕ) (d : Span) (h : i < length ws) where
   -- it has a row,
@@ -31,3 +31,10 @@ module _ {V : Type 0} (m : V → ℕ × ℕ) (rows : List (Row V)) (ws : List Wr
 
   pub same_write : (place : ℕ) → place < length rows → (one other : Row V) → one ≡ get_or rows (get_or ws i d).place one → other ≡ get_or rows place other → same_value (told m rows) (spans ws) place i ≡ alike (meant m one) (meant m other)
   same_write place k one other e f = same_is m rows (spans ws) below i (span d) within place k one other (e ∙ ap (λ p. get_or rows p one) (sym at_place)) f
+
+  pub place_at : get_or (places (spans ws)) i 0 ≡ (get_or ws i d).place
+  place_at = get_or-map (λ w. w.place) (spans ws) i (span d) 0 within ∙ at_place
+
+  -- and what its test of the value of the operation at a place says
+  pub like_write : (place : ℕ) → same_value (told m rows) (spans ws) place i ≡ alike (at (told m rows) (get_or ws i d).place) (at (told m rows) place)
+  like_write place = ap (λ p. alike (at (told m rows) p) (at (told m rows) place)) place_at

@@ -21,22 +21,26 @@ soonest_more (r ∷ rs) w (suc i) h =
     ∙ ap (λ s. cond (reads r w) (min r.finish s) s) (soonest_more rs w i (omega arith))
     ∙ min_swap (reads r w) (reads (at rs i) w) r.finish (at rs i).finish (soonest (take i rs) w)
 
+-- what does not read w leaves its last read
+pub last_same : (ops : List Operation) (w : Operation) (n : ℕ) (held : Option ℕ) → LastRead ops n w held → reads (at ops n) w ≡ false → LastRead ops (n + 1) w held
+last_same ops w n (Some start) l e = ((l.0.0, omega (arith, l.0.1), l.0.2, l.0.3), λ p h f. go p h f (cases_eq p n))
+  where
+    go : (p : ℕ) → p < n + 1 → reads (at ops p) w ≡ true → ((p ≡ n) ⊎ (p ≡ n → ⊥)) → (at ops p).start ≤ start
+    go p h f (inl s) = absurd (both_ways _ e (ap (λ x. reads (at ops x) w) (sym s) ∙ f))
+    go p h f (inr d) = l.1 p (omega arith) f
+last_same ops w n None l e = λ p h. go p h (cases_eq p n)
+  where
+    go : (p : ℕ) → p < n + 1 → ((p ≡ n) ⊎ (p ≡ n → ⊥)) → reads (at ops p) w ≡ false
+    go p h (inl s) = ap (λ x. reads (at ops x) w) s ∙ e
+    go p h (inr d) = l p (omega arith)
+
 module _ (ops : List Operation) (w : Operation) (n : ℕ) (h : n < length ops) where
   -- where it does not read w,
   pub soonest_no : reads (at ops n) w ≡ false → soonest (take n ops) w ≡ soonest (take (n + 1) ops) w
   soonest_no e = sym (soonest_more ops w n h ∙ cond-false (reads (at ops n) w) _ _ e)
 
   pub last_no : (held : Option ℕ) → LastRead ops n w held → reads (at ops n) w ≡ false → LastRead ops (n + 1) w held
-  last_no (Some start) l e = ((l.0.0, omega (arith, l.0.1), l.0.2, l.0.3), λ p h f. go p h f (cases_eq p n))
-    where
-      go : (p : ℕ) → p < n + 1 → reads (at ops p) w ≡ true → ((p ≡ n) ⊎ (p ≡ n → ⊥)) → (at ops p).start ≤ start
-      go p h f (inl s) = absurd (both_ways _ e (ap (λ x. reads (at ops x) w) (sym s) ∙ f))
-      go p h f (inr d) = l.1 p (omega arith) f
-  last_no None l e = λ p h. go p h (cases_eq p n)
-    where
-      go : (p : ℕ) → p < n + 1 → ((p ≡ n) ⊎ (p ≡ n → ⊥)) → reads (at ops p) w ≡ false
-      go p h (inl s) = ap (λ x. reads (at ops x) w) s ∙ e
-      go p h (inr d) = l p (omega arith)
+  last_no = last_same ops w n
 
   -- and where it does
   module _ (e : reads (at ops n) w ≡ true) where

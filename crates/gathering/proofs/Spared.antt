@@ -15,12 +15,16 @@ module _ (ops : List Operation) (held : Operation → Bool) (f : Faults) where
   abbrev Finds : (List Operation → ℕ → Bool) → Option ℕ → Type 0
   Finds fault place = Lowest (length ops) (faulty held fault ops) place
 
+  -- a fault is refused, and what comes after it need not be known
+  pub first_fault : Finds written_twice f.written_twice → Finds unwritten f.unwritten → (f.unwritten ≡ None → Finds foreseen f.foreseen) → (by : Layer) (e : Fault) → Refuses f e → first_failed (value_checks ops held by) ≡ Some (fault_refusal by e)
+  first_fault once sourced unforeseen by (WrittenTwice place) r = fails_13 ops held by place (subst (Finds written_twice) r once)
+  first_fault once sourced unforeseen by (Unwritten place) r = fails_14 ops held by (subst (Finds written_twice) r.0 once) place (subst (Finds unwritten) r.1 sourced)
+  first_fault once sourced unforeseen by (Foreseen place) r = fails_15 ops held by (subst (Finds written_twice) r.0 once) (subst (Finds unwritten) r.1 sourced) place (subst (Finds foreseen) r.2 (unforeseen r.1))
+
   module _ (once : Finds written_twice f.written_twice) (sourced : Finds unwritten f.unwritten) (unforeseen : Finds foreseen f.foreseen) where
-    -- a fault is refused,
+    -- so it is where all are known,
     pub refused_fault : (by : Layer) (e : Fault) → Refuses f e → first_failed (value_checks ops held by) ≡ Some (fault_refusal by e)
-    refused_fault by (WrittenTwice place) r = fails_13 ops held by place (subst (Finds written_twice) r once)
-    refused_fault by (Unwritten place) r = fails_14 ops held by (subst (Finds written_twice) r.0 once) place (subst (Finds unwritten) r.1 sourced)
-    refused_fault by (Foreseen place) r = fails_15 ops held by (subst (Finds written_twice) r.0 once) (subst (Finds unwritten) r.1 sourced) place (subst (Finds foreseen) r.2 unforeseen)
+    refused_fault = first_fault once sourced (λ none. unforeseen)
 
     module _ (spared : Spares f (Ok tt)) where
       -- and where there is none no check fails,

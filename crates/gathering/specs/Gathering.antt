@@ -29,6 +29,10 @@ noted r place None = record { any = true; unwritten = option_or r.unwritten (Som
 noted r place (Some true) = record { any = true; unwritten = r.unwritten; foreseen = option_or r.foreseen (Some place) }
 noted r place (Some false) = record { any = true; unwritten = r.unwritten; foreseen = r.foreseen }
 
+-- the bay with what is found of its reads, and the place of the first write of a value that an earlier one has
+abbrev pub with_reads : Bay → Option ℕ → Reads → Bay
+with_reads bay twice r = record { writes = bay.writes; read = r.any; faults = record { written_twice = twice; unwritten = r.unwritten; foreseen = r.foreseen } }
+
 module _ (ops : List Operation) where
   -- a write as the first n operations leave it: shortened by its reads, with the start of the last of them
   pub record AsLeft (n : ℕ) (w : Span) : Type 0 where

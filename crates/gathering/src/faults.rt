@@ -1,5 +1,7 @@
 // The faults of a bay's operations.
+ghost use Rattle.std.specs.Prelude.{◌≡◌};
 ghost use Rattle.gathering.specs.Faults.{Spares};
+ghost use Rattle.gathering.specs.declared.faults.Unspared.TheVariants.{TooManyWrites as too_many, Faulty as faulty};
 
 // The lowest place of each fault, where an operation of the bay has it.
 #[derive(Clone, Copy, Default)]
@@ -41,3 +43,26 @@ impl Faults {
 // A bay with more than 64 writes.
 #[derive(Clone, Copy)]
 pub struct TooManyWrites;
+
+// Why a bay cannot be judged.
+#[derive(Clone, Copy, PartialEq)]
+pub enum Unspared {
+    TooManyWrites,
+    Faulty(Fault),
+}
+
+impl From<TooManyWrites> for Unspared {
+    ghost from_gives = { λ many unspared. unspared ≡ too_many };
+
+    fn from(_: TooManyWrites) -> Unspared {
+        Unspared::TooManyWrites
+    }
+}
+
+impl From<Fault> for Unspared {
+    ghost from_gives = { λ fault unspared. unspared ≡ faulty fault };
+
+    fn from(fault: Fault) -> Unspared {
+        Unspared::Faulty(fault)
+    }
+}

@@ -4,7 +4,7 @@ use operations::row::Row;
 // How many writes a bay may have.
 pub const MOST_WRITES: usize = 64;
 
-// The write at a place of the source. Its value, and those of its reads, are to be had at that place.
+// The write at a place of the source. Its value is to be had at that place, and those of its reads mean the same.
 #[derive(Clone, Copy)]
 pub struct Write {
     pub place: usize,

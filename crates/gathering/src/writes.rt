@@ -1,12 +1,13 @@
 // The writes of a bay, one operation after another.
-ghost use Rattle.std.specs.Prelude.{◌≡◌, ◌<◌, length, OnOk};
-ghost use Rattle.orders.specs.Orders.{at};
-ghost use Rattle.bays.specs.Faults.{Lowest};
+ghost use Rattle.std.specs.Prelude.{◌≡◌, ℕ, ◌<◌, false, length, OnOk};
+ghost use Rattle.orders.specs.Orders.{at, of_bay};
+ghost use Rattle.bays.specs.Faults.{Lowest, faulty, written_twice};
 ghost use Rattle.lists.specs.Lists.{listed};
 ghost use Rattle.relations.specs.Meanings.{meant, told};
 ghost use Rattle.operations.specs.Rows.{without_value};
 ghost use Rattle.gathering.specs.Kept.{later_read, shortened_by, AllKept};
 ghost use Rattle.gathering.specs.Spans.{started, span, spans};
+ghost use Rattle.gathering.specs.Gathering.{Wrote};
 ghost use Rattle.gathering.specs.Writes.{same_value, later, read_by, PlacesBelow, WriteAdded, ReadAdded};
 
 use crate::faults::TooManyWrites;
@@ -55,17 +56,34 @@ fn rank_of<V: Kind>(rows: &[Row<V>], writes: &[Write], place: usize) -> Option<u
     None
 }
 
-// Adds the write at a place, and tells whether an earlier one has its value.
+// The place of the first write whose value an earlier one has.
+pub(crate) fn first_twice<V: Kind>(rows: &[Row<V>], writes: &[Write]) -> Option<usize>
+    requires { PlacesBelow (length rows.now) (spans writes.now) }
+    ensures { (b : ℕ) → Wrote (told V.Kind.meaning rows.now) b (length rows.now) (spans writes.now) →
+        Lowest (length rows.now) (faulty (of_bay b) written_twice (told V.Kind.meaning rows.now)) result }
+{
+    let mut twice = None;
+    for (rank, write) in writes.iter().enumerate() {
+        if twice.is_none() {
+            let first = rank_of(rows, writes, write.place).unwrap_or(rank);
+            if first < rank {
+                twice = Some(write.place);
+            }
+        }
+    }
+    twice
+}
+
+// Adds the write at a place.
 pub(crate) fn add_write<V: Kind>(
     rows: &[Row<V>],
     writes: &mut ArrayList<Write, MOST_WRITES>,
     place: usize,
-) -> Result<bool, TooManyWrites>
-    requires { (PlacesBelow (length rows.now) (spans (listed writes.old))) × (place < length rows.now) }
+) -> Result<(), TooManyWrites>
+    requires { place < length rows.now }
     ensures added { WriteAdded (told V.Kind.meaning rows.now) (spans (listed writes.old)) place (spans (listed writes.new)) result }
-    ensures kept { OnOk result (AllKept rows.now (listed writes.old) → AllKept rows.now (listed writes.new)) }
+    ensures kept { OnOk result (AllKept V.Kind.meaning rows.now (listed writes.old) → AllKept V.Kind.meaning rows.now (listed writes.new)) }
 {
-    let twice = rank_of(rows, writes.as_slice(), place).is_some();
     let write = Write {
         place,
         row: rows[place].without_value(),
@@ -74,7 +92,7 @@ pub(crate) fn add_write<V: Kind>(
     let Ok(()) = writes.push(write) else {
         return Err(TooManyWrites);
     };
-    Ok(twice)
+    Ok(())
 }
 
 // Adds the read at a place to the first write of its value, where there is one, and tells whether the read is before it.
@@ -83,9 +101,10 @@ pub(crate) fn add_read<V: Kind>(
     writes: &mut ArrayList<Write, MOST_WRITES>,
     place: usize,
 ) -> Option<bool>
-    requires { (PlacesBelow (length rows.now) (spans (listed writes.old))) × (place < length rows.now) }
+    requires below { (PlacesBelow (length rows.now) (spans (listed writes.old))) × (place < length rows.now) }
+    requires read { (at (told V.Kind.meaning rows.now) place).write ≡ false }
     ensures added { ReadAdded (told V.Kind.meaning rows.now) (spans (listed writes.old)) place (spans (listed writes.new)) result }
-    ensures kept { AllKept rows.now (listed writes.old) → AllKept rows.now (listed writes.new) }
+    ensures kept { AllKept V.Kind.meaning rows.now (listed writes.old) → AllKept V.Kind.meaning rows.now (listed writes.new) }
 {
     let rank = rank_of(rows, writes.as_slice(), place)?;
     let read = &rows[place];

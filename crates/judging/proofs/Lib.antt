@@ -1,3 +1,5 @@
+pub mod Faulty
+pub mod Gathered
 mod Filling
 mod Found
-mod Reporting
+pub mod Reporting

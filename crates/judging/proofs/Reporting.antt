@@ -1,6 +1,6 @@
 -- What a judge reports and refuses, from what is found of the rows. Assumes nothing.
-use Rattle.std.proofs.Common.{◌≡◌, ℕ, ◌<◌, ◌≤◌, Bool, ◌&&◌, leb, List, ◌∷◌, ◌++◌, length, drop, Some, Ok, Err, sym, refl, ap, ◌∙◌, inl, inr, arith}
-use Rattle.std.proofs.lemmas.Bool.{cond-true, cond-false, le-leb, lt-leb, and_from}
+use Rattle.std.proofs.Common.{◌≡◌, ℕ, ◌<◌, ◌≤◌, Bool, false, ◌&&◌, leb, ◌⊎◌, List, ◌∷◌, ◌++◌, length, drop, Some, Ok, Err, sym, refl, ap, ◌∙◌, inl, inr, arith}
+use Rattle.std.proofs.lemmas.Bool.{cond-true, cond-false, le-leb, lt-leb, and_from, and_left, and_right}
 use Rattle.bays.proofs.Ages.{least_age}
 use Rattle.bays.proofs.Passing.{some_tally}
 use Rattle.lists.specs.Lists.{listed}
@@ -12,7 +12,7 @@ use Rattle.orders.specs.Orders.{Operation, writes}
 use Rattle.orders.proofs.LeastAges.{value_orders_are_lawful_orders}
 use Rattle.trying.specs.declared.order.BayOrder.{BayOrder}
 use Rattle.judging.specs.declared.refusal.JudgeRefusal.{JudgeRefusal}
-use Rattle.judging.specs.declared.refusal.JudgeRefusal.TheVariants.{NoBay, ShortSheet, TooMany}
+use Rattle.judging.specs.declared.refusal.JudgeRefusal.TheVariants.{NoBay, NoLimit, ShortSheet, TooMany}
 use Rattle.judging.specs.Checks.{bay_checks, judge_checks}
 use Rattle.judging.specs.Judging.{Judged}
 use Rattle.judging.specs.Rows.{RowsJudged}
@@ -34,6 +34,13 @@ module _ (ops : List Operation) (b limit : ℕ) (sheet : List ℕ) where
   module _ (is-bay : b ≤ 63) where
     past_8 : first_failed (judge_checks ops b limit (length sheet)) ≡ first_failed from_9
     past_8 = cond-true (leb b 63) (first_failed from_9) (Some (refusal 8 b Judge)) (le-leb b 63 is-bay)
+
+    pub refused_9 : (limit ≡ 0) ⊎ (1000000 < limit) → Judged ops b limit sheet sheet (Err (NoLimit limit))
+    refused_9 h = (refl, inl (past_8 ∙ cond-false (leb 1 limit && leb limit 1000000) (first_failed from_10) (Some (refusal 9 limit Judge)) (out h)))
+      where
+        out : (limit ≡ 0) ⊎ (1000000 < limit) → (leb 1 limit && leb limit 1000000) ≡ false
+        out (inl e) = and_left (leb 1 limit) (leb limit 1000000) (lt-leb 1 limit (omega arith))
+        out (inr l) = and_right (leb 1 limit) (leb limit 1000000) (lt-leb limit 1000000 l)
 
     module _ (least : 1 ≤ limit) (most : limit ≤ 1000000) where
       past_9 : first_failed (judge_checks ops b limit (length sheet)) ≡ first_failed from_10

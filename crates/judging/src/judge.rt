@@ -9,6 +9,7 @@ use crate::judgment::Judgment;
 use crate::refusal::JudgeRefusal;
 use crate::sheet::fill;
 use gathering::bay::Bay;
+use gathering::faults::Unspared;
 use gathering::write::MOST_WRITES;
 use operations::copying::copy;
 use operations::operation::LAST_BAY;
@@ -60,9 +61,11 @@ fn judge_rows<V: Kind>(rows: &[Row<V>], bay: u32, limit: u32) -> Result<BayOrder
     requires { (bay ≤ 63) × (AllValid rows.now) }
     ensures { RowsJudged (told V.Kind.meaning rows.now) bay limit result }
 {
-    let Ok(gathered) = Bay::gather(rows, bay as u8) else {
-        return Err(JudgeRefusal::TooManyWrites { bay });
-    };
-    gathered.faults.spare()?;
+    let mut gathered = Bay::new();
+    match gathered.gather_spared(rows, bay as u8) {
+        Ok(()) => {}
+        Err(Unspared::TooManyWrites) => return Err(JudgeRefusal::TooManyWrites { bay }),
+        Err(Unspared::Faulty(fault)) => return Err(fault.into()),
+    }
     judge_bay(&gathered, limit).or(Err(JudgeRefusal::OverLimit { bay }))
 }

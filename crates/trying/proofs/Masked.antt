@@ -1,5 +1,6 @@
 -- Masks with one bit more. Assumes nothing.
-use Rattle.std.proofs.Common.{◌≡◌, ℕ, ◌+◌, ◌<◌, ◌≤◌, Bool, true, false, ◌&&◌, ◌||◌, eqb, ltb, ◌⊎◌, List, [], ◌∷◌, ◌++◌, length, get_or, None, sym, refl, ap, ◌∙◌, subst, inl, inr, arith}
+use Rattle.std.proofs.Common.{◌≡◌, ℕ, ◌+◌, ◌%◌, ◌^◌, ◌<◌, ◌≤◌, Bool, true, false, ◌&&◌, ◌||◌, eqb, ltb, ◌⊎◌, List, [], ◌∷◌, ◌++◌, length, get_or, None, sym, refl, ap, ◌∙◌, subst, inl, inr, arith}
+use native.Mathlib.Nat.{zero-div}
 use Rattle.std.proofs.lemmas.List.{get_or_default, get_or-map, length-map}
 use Rattle.std.proofs.lemmas.Bool.{cases_order, eq-eqb, ne_eqb, lt-ltb, le-ltb}
 use Rattle.operations.proofs.Checks.{each_push}
@@ -31,6 +32,14 @@ module _ (ws : List Write) (i : ℕ) (d : Write) (h : i < length ws) where
 
   pub write_last : get_or (last_reads (spans ws)) i None ≡ started (get_or ws i d).last_read
   write_last = last_at (spans ws) i (span d) within ∙ ap (λ s. s.last_read) (get_or-map span ws i d (span d) h)
+
+-- a list with a number more
+pub pushed_place : {new : List ℕ} {p : ℕ} (old : List ℕ) (q : ℕ) → new ≡ old ++ (p ∷ []) → p ≡ q → new ≡ old ++ (q ∷ [])
+pushed_place old q pushed same = pushed ∙ ap (λ n. old ++ (n ∷ [])) same
+
+-- 0 has no bit
+pub bits_none : (test : ℕ → Bool) → Bits 0 test 0
+bits_none test i = ap (λ n. eqb (n % 2) 1) (zero-div (2 ^ i)) ∙ ap (λ t. t && test i) (sym (le-ltb i 0 (omega arith)))
 
 module _ (n : ℕ) (test : ℕ → Bool) (mask : ℕ) (bits : Bits n test mask) where
   pub bits_at : (i : ℕ) → i < n → has_bit mask i ≡ test i

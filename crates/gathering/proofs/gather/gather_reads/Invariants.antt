@@ -9,4 +9,4 @@ abbrev pub invariant-loop-place : goal.invariant-loop-place
 invariant-loop-place g l =
     Seen (told g.V.Kind.meaning l.rows) l.number l.place (spans (listed l.writes))
     × ReadsUpTo (told g.V.Kind.meaning l.rows) l.number l.place l.reads
-    × (AllKept l.rows (listed l.initial.writes) → AllKept l.rows (listed l.writes))
+    × (AllKept g.V.Kind.meaning l.rows (listed l.initial.writes) → AllKept g.V.Kind.meaning l.rows (listed l.writes))

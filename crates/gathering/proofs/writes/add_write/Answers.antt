@@ -8,7 +8,8 @@ use Rattle.gathering.proofs.writes.add_write.Goals as goal
 
 pub returns-clause-kept : goal.returns-clause-kept
 returns-clause-kept g c kept =
+    let m = g.V.Kind.meaning in
     let rows = c.args.rows.now in
     let ws = listed c.args.writes.now in
     let added : Row (Unit {0}) → List Write = λ r. ws ++ (record { place = c.args.place; row = r; last_read = None } ∷ []) in
-    subst (AllKept rows) (sym (c.in-Ok.ensures.1 ∙ ap added c.without_value.ensures)) (kept_push rows ws c.args.place c.index-rows-place.result c.index-rows-place.is kept)
+    subst (AllKept m rows) (sym (c.in-Ok.ensures.1 ∙ ap added c.without_value.ensures)) (kept_push m rows ws c.args.place c.index-rows-place.result c.index-rows-place.is kept)
