@@ -14,19 +14,25 @@ use trying::judge::judge_bay;
 use trying::order::BayOrder;
 use values::kind::Kind;
 
-// Judges the bay of this number with so many trials left.
-fn judge_next<V: Kind>(rows: &[Row<V>], number: u8, left: u32) -> Result<BayOrder, SurveyRefusal>
+// Judges the bay of this number with so many trials left. It takes the place of the bay that was gathered before.
+fn judge_next<V: Kind>(
+    rows: &[Row<V>],
+    bay: &mut Bay,
+    number: u8,
+    left: u32,
+) -> Result<BayOrder, SurveyRefusal>
     requires { (number < 64) × (Judging V.Kind.meaning rows.now) }
     ensures { BayFound (told V.Kind.meaning rows.now) number left result }
 {
-    let bay = Bay::gather(rows, number).unwrap();
-    judge_bay(&bay, left).or(Err(SurveyRefusal::OverLimit { bay: number }))
+    bay.gather(rows, number).unwrap();
+    judge_bay(bay, left).or(Err(SurveyRefusal::OverLimit { bay: number }))
 }
 
 // Judges every bay in ascending number, with the trials that those before it left.
 pub fn judge_bays<V: Kind>(
     rows: &[Row<V>],
     limit: u32,
+    bay: &mut Bay,
     kept: &mut Kept,
 ) -> Result<Report, SurveyRefusal>
     requires { (length rows.now ≤ 512) × (Judging V.Kind.meaning rows.now) }
@@ -36,7 +42,7 @@ pub fn judge_bays<V: Kind>(
     let mut age: usize = 0;
     let mut trials: u32 = 0;
     for number in 0..BAYS {
-        let found = judge_next(rows, number, limit - trials)?;
+        let found = judge_next(rows, bay, number, limit - trials)?;
         age = age.max(found.age);
         trials += found.trials;
         kept.add(number, &found);

@@ -1,5 +1,6 @@
 // What a survey works on.
 use crate::finding::Finding;
+use gathering::bay::Bay;
 use operations::room::Room;
 use operations::row::Row;
 
@@ -15,5 +16,7 @@ pub struct Kept {
 #[derive(Drop)]
 pub struct SurveyDesk<V> {
     pub(crate) rows: Room<Row<V>>,
+    // The bay that is looked at.
+    pub(crate) bay: Bay,
     pub(crate) kept: Kept,
 }

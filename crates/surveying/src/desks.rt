@@ -4,6 +4,7 @@ ghost use Rattle.surveying.specs.Desks.{desk_findings, desk_orders};
 
 use crate::desk::{Kept, SurveyDesk};
 use crate::finding::Finding;
+use gathering::bay::Bay;
 use operations::room::Room;
 use std::alloc::{AllocError, Global};
 use values::kind::Kind;
@@ -18,6 +19,7 @@ impl<V: Kind> SurveyDesk<V> {
         let orders = Room::new(heap)?;
         Ok(SurveyDesk {
             rows,
+            bay: Bay::new(),
             kept: Kept { findings, orders },
         })
     }

@@ -35,7 +35,7 @@ fn join(one: Faults, other: Faults) -> Faults
 }
 
 // The faults of all bays together, unless a bay has more than 64 writes: then the lowest such bay is refused.
-fn faults<V: Kind>(rows: &[Row<V>]) -> Result<Faults, SurveyRefusal>
+fn faults<V: Kind>(rows: &[Row<V>], bay: &mut Bay) -> Result<Faults, SurveyRefusal>
     requires { AllValid rows.now }
     ensures { MatchResult result
         (λ found. FewWrites (told V.Kind.meaning rows.now) crane_bays × FaultsOf (told V.Kind.meaning rows.now) whole found)
@@ -43,7 +43,7 @@ fn faults<V: Kind>(rows: &[Row<V>]) -> Result<Faults, SurveyRefusal>
 {
     let mut found = Faults::default();
     for number in 0..BAYS {
-        let Ok(bay) = Bay::gather(rows, number) else {
+        let Ok(()) = bay.gather(rows, number) else {
             return Err(SurveyRefusal::TooManyWrites { bay: number });
         };
         found = join(found, bay.faults);
@@ -52,11 +52,11 @@ fn faults<V: Kind>(rows: &[Row<V>]) -> Result<Faults, SurveyRefusal>
 }
 
 // Refuses rows that cannot be judged. Each fault is looked for at every place before the next one.
-pub fn spare<V: Kind>(rows: &[Row<V>]) -> Result<(), SurveyRefusal>
+pub fn spare<V: Kind>(rows: &[Row<V>], bay: &mut Bay) -> Result<(), SurveyRefusal>
     requires { AllValid rows.now }
     ensures { Spares (told V.Kind.meaning rows.now) result }
 {
-    let found = faults(rows)?;
+    let found = faults(rows, bay)?;
     found.spare()?;
     Ok(())
 }

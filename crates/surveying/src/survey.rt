@@ -29,6 +29,6 @@ pub fn survey<S: Source>(
         return Err(SurveyRefusal::TooMany { operations });
     }
     copy(source, &mut desk.rows).unwrap();
-    spare(desk.rows.as_slice())?;
-    judge_bays(desk.rows.as_slice(), limit, &mut desk.kept)
+    spare(desk.rows.as_slice(), &mut desk.bay)?;
+    judge_bays(desk.rows.as_slice(), limit, &mut desk.bay, &mut desk.kept)
 }

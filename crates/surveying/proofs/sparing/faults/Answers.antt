@@ -17,7 +17,7 @@ loop-number-init g c = (λ b h. absurd (omega arith), faults_none (told g.V.Kind
 pub loop-number-preserved : goal.loop-number-preserved
 loop-number-preserved g c =
     let ops = told g.V.Kind.meaning c.args.rows.now in
-    let number = c.loop-number.number in let bay = c.in-Ok.bay in
+    let number = c.loop-number.number in let bay = c.gather.new.self in
     let gathered = c.in-Ok.ensures.gathered in (
       below_more _ _ c.loop-number.invariant.0 (gathered_few ops number bay gathered),
       rw c.join-found.ensures (faults_more ops number c.loop-number.found bay.faults c.loop-number.invariant.1 (gathered_faults ops number bay gathered)),
