@@ -6,6 +6,7 @@ ghost use Rattle.folders.specs.Sayings.{Says};
 use crate::failed::Failed;
 use reports::unreported::Unreported;
 use std::alloc::{AllocError, Global};
+use std::io;
 
 // A report, or the words of why there is none. A want of memory has no words here.
 pub fn said(heap: Global, report: Result<String, Unreported>) -> Result<String, AllocError>
@@ -27,7 +28,8 @@ pub fn say(rt: &HostRuntime, report: Result<String, Failed>) -> anyhow::Result<(
         Err(Failed::Unreported(unreported)) => Err(unreported),
         Err(Failed::Unread(error)) => return Err(error.into()),
     };
-    let text = said(rt.alloc(), report)?;
+    // A want of memory is told in the words that it has where a file is read.
+    let text = said(rt.alloc(), report).map_err(io::Error::from)?;
     println!(rt; "{text}")?;
     Ok(())
 }
