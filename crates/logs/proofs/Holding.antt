@@ -1,13 +1,17 @@
 -- What cabinets and rows hold after one of them is written. Assumes nothing.
-use Rattle.std.proofs.Common.{◌≡◌, ℕ, zero, suc, ◌+◌, ◌-◌, ◌<◌, ◌≤◌, true, ◌⊎◌, List, [], ◌∷◌, length, get_or, set, replicate, refl, ap, ◌∙◌, inl, inr, ⊎_elim, arith}
-use Rattle.std.proofs.lemmas.Bool.{false≢true}
+use Rattle.std.proofs.Common.{◌≡◌, ℕ, zero, suc, ◌+◌, ◌-◌, ◌<◌, ◌≤◌, true, false, ◌≢◌, ◌⊎◌, List, [], ◌∷◌, ◌++◌, length, get_or, take, set, replicate, sym, refl, ap, ◌∙◌, subst, inl, inr, ⊎_elim, arith, length-set, length-take, get_or-set_other, get_or-take, get_or-set_same}
+use lib.ListN.{get_or-eq_default}
+use Rattle.std.proofs.lemmas.List.{take_more_set}
+use Rattle.std.proofs.lemmas.Bool.{false≢true, cases_lt}
 use Rattle.std.proofs.lemmas.Bool.Decides.{nat_tests}
+use Rattle.operations.specs.Rows.{Valid, AllValid}
 use Rattle.operations.specs.declared.row.Row.{Row}
 use Rattle.operations.specs.declared.row.Sort.{Sort}
 use Rattle.operations.specs.declared.row.Sort.TheVariants.{Read, Write}
 use Rattle.logs.specs.declared.cabinet.Cabinet.{Cabinet}
 use Rattle.logs.specs.declared.cabinet.Cabinet.TheVariants.{Idle, Reading, Writing}
 use Rattle.logs.specs.Cabinets.{occupied, holds, bay_of, begun_of, waits, busy, AllHeld, Found, ValidUpTo}
+use Rattle.logs.specs.States.{state}
 
 -- one entry more or less that waits
 busy_set : (cs : List Cabinet) (i : ℕ) (v : Cabinet) → i < length cs → busy (set cs i v) + waits (get_or cs i Idle) ≡ busy cs + waits v
@@ -60,6 +64,10 @@ idle_replicate (suc n) (suc k) = idle_replicate n k
 pub fresh_held : (n m : ℕ) → AllHeld m (replicate n Idle)
 fresh_held n m k = (omega (arith, ap bay_of (idle_replicate n k)), omega (arith, ap begun_of (idle_replicate n k)))
 
+-- no cabinet past the last one holds anything
+pub past_holds : (cs : List Cabinet) (i : ℕ) (k : Sort) (t : ℕ) → length cs ≤ i → holds k t (get_or cs i Idle) ≡ false
+past_holds cs i k t h = rw (get_or-eq_default cs Idle h)
+
 -- what a cabinet holds
 pub held_known : (x : Cabinet) (k : Sort) (t : ℕ) → holds k t x ≡ true → x ≡ occupied k (bay_of x) t
 held_known Idle k t e = absurd (false≢true e)
@@ -78,3 +86,26 @@ held_found cs c k t b n w h counted e is known =
 
 pub fresh_rows : {V : Type 0} (rows : List (Row V)) (n : ℕ) → n ≡ 0 → ValidUpTo rows n
 fresh_rows rows n e k d h = absurd (omega arith)
+
+rows_push : {V : Type 0} (rows : List (Row V)) (n : ℕ) (r : Row V) → n < length rows → ValidUpTo rows n → Valid r → ValidUpTo (set rows n r) (n + 1)
+rows_push rows n r l h p k d b =
+    ⊎_elim
+    (λ lt. let ne : k ≢ n = omega arith in subst Valid (sym (get_or-set_other rows n k r d ne)) (h k d lt))
+    (λ le. let e : n ≡ k = omega arith in subst (λ j. Valid (get_or (set rows n r) j d)) e (subst Valid (sym (get_or-set_same rows n r d l)) p))
+    (cases_lt k n)
+
+pub rows_pushed : {V : Type 0} (rows rows' : List (Row V)) (n n' : ℕ) (r : Row V) → n' ≡ n + 1 → rows' ≡ set rows n r → n < length rows → ValidUpTo rows n → Valid r → ValidUpTo rows' n'
+rows_pushed rows rows' n n' r en er l h p =
+    subst (λ m. ValidUpTo rows' m) (sym en) (subst (λ xs. ValidUpTo xs (n + 1)) (sym er) (rows_push rows n r l h p))
+
+pub pushed_rows : {X : Type 0} (rows rows' : List X) (n n' : ℕ) (r : X) → n' ≡ n + 1 → rows' ≡ set rows n r → n < length rows → (take n' rows' ≡ take n rows ++ (r ∷ [])) × (length rows' ≡ length rows)
+pushed_rows rows rows' n n' r en er l = (rw (en, er) (take_more_set rows n r l), ap length er ∙ length-set rows n r)
+
+pub state_alike : {V : Type 0} {cs cs' : List Cabinet} {n n' w w' r r' : ℕ} {e e' : List (Row V)} → cs ≡ cs' → n ≡ n' → w ≡ w' → r ≡ r' → e ≡ e' → state cs n w r e ≡ state cs' n' w' r' e'
+state_alike c n w r e = λ i. state (c i) (n i) (w i) (r i) (e i)
+
+-- the ended rows are operations'
+pub rows_taken : {V : Type 0} (rows ended : List (Row V)) (n : ℕ) → ValidUpTo rows n → ended ≡ take n rows → AllValid ended
+rows_taken rows ended n h e k d l =
+    let b : k < n = omega (arith, ap length e, length-take n rows) in
+    subst Valid (sym (ap (λ xs. get_or xs k d) e ∙ get_or-take n rows k d b)) (h k d b)

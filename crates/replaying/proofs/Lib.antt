@@ -1,3 +1,4 @@
 pub mod Going
 pub mod Running
 pub mod Texts
+pub mod Ticketing
