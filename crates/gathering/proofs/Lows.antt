@@ -1,5 +1,5 @@
 -- The lowest place that passes a test, one place more at a time. Assumes nothing.
-use Rattle.std.proofs.Common.{◌≡◌, ℕ, ◌+◌, ◌<◌, ◌≤◌, Bool, true, false, is_some, Some, None, Option, sym, ◌∙◌, arith, below_more}
+use Rattle.std.proofs.Common.{◌≡◌, ℕ, zero, suc, ◌+◌, ◌<◌, ◌≤◌, Bool, true, false, is_some, Some, None, Option, sym, refl, ◌∙◌, subst, add-one, arith, below_more}
 use Rattle.std.specs.Option.{option_or}
 use Rattle.bays.specs.Faults.{Lowest}
 
@@ -22,3 +22,12 @@ module _ (test : ℕ → Bool) (n : ℕ) where
 pub lowest_as : (n : ℕ) (f g : ℕ → Bool) (first : Option ℕ) → ((p : ℕ) → p < n → f p ≡ g p) → Lowest n f first → Lowest n g first
 lowest_as n f g (Some p) h l = (l.0, sym (h p l.0) ∙ l.1, λ q k. sym (h q (omega (arith, l.0))) ∙ l.2 q k)
 lowest_as n f g None h l = λ q k. sym (h q k) ∙ l q k
+
+-- some place is the lowest, or none is
+pub lowest_is : (n : ℕ) (test : ℕ → Bool) → (first : Option ℕ) × Lowest n test first
+lowest_is zero test = (None, λ q h. absurd (omega arith))
+lowest_is (suc n) test = go (lowest_is n test) (test n) refl
+  where
+    go : ((first : Option ℕ) × Lowest n test first) → (t : Bool) → test n ≡ t → (first : Option ℕ) × Lowest (suc n) test first
+    go x true e = (option_or x.0 (Some n), subst (λ k. Lowest k test (option_or x.0 (Some n))) (add-one n) (lowest_yes test n x.0 x.1 e))
+    go x false e = (x.0, subst (λ k. Lowest k test x.0) (add-one n) (lowest_no test n x.0 x.1 e))

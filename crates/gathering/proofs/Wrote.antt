@@ -1,5 +1,5 @@
 -- The writes of a bay, one operation more at a time. Assumes nothing.
-use Rattle.std.proofs.Common.{◌≡◌, ℕ, ◌+◌, ◌<◌, ◌≤◌, Bool, true, false, ◌&&◌, List, [], ◌∷◌, ◌++◌, length, get_or, is_some, Some, Option, sym, refl, ap, ◌∙◌, subst, add-one, arith}
+use Rattle.std.proofs.Common.{◌≡◌, ℕ, ◌+◌, ◌<◌, ◌≤◌, Bool, true, false, ◌&&◌, List, [], ◌∷◌, ◌++◌, length, get_or, is_some, Some, Ok, Option, sym, refl, ap, ◌∙◌, subst, add-one, arith}
 use mathlib.Core.Bool.{and_comm}
 use Rattle.std.specs.Option.{option_or}
 use Rattle.std.proofs.lemmas.List.{length-map, length_push, map_push}
@@ -13,8 +13,8 @@ use Rattle.bays.proofs.Faulty.{twice_ranked, twice_not}
 use Rattle.bays.proofs.Passing.{passing_yes, passing_no, passing_is, passing_length, tally_rising}
 use Rattle.gathering.specs.Spans.{Span}
 use Rattle.gathering.specs.Gathering.{Wrote}
-use Rattle.gathering.specs.Writes.{unread, same_value, PlacesBelow}
-use Rattle.gathering.proofs.Lows.{lowest_yes, lowest_no}
+use Rattle.gathering.specs.Writes.{unread, same_value, PlacesBelow, WriteAdded}
+use Rattle.gathering.proofs.Lows.{lowest_yes, lowest_no, lowest_is}
 
 pub wrote_none : (ops : List Operation) (b : ℕ) → Wrote ops b 0 []
 wrote_none ops b = record { ranked = refl; few = omega arith; each = λ rank d h. absurd (omega arith) }
@@ -49,6 +49,10 @@ module _ (ops : List Operation) (b n : ℕ) (ws : List Span) (so_far : Wrote ops
 
       pub twice_no : (first : Option ℕ) (twice : Bool) → Lowest n (faulty (of_bay b) written_twice ops) first → ((r : Option ℕ) × Lowest (length ws) (same_value ops ws n) r × (twice ≡ is_some r)) → twice ≡ false → Lowest (n + 1) (faulty (of_bay b) written_twice ops) first
       twice_no first twice l x t = lowest_no _ n first l (twice_here x.0 x.1 ∙ sym x.2 ∙ t)
+
+      -- so it is told, where it is added
+      pub wrote_added : (is : List Span) → (length ws < 64) × (is ≡ ws ++ (unread ops n ∷ [])) → WriteAdded ops ws n is (Ok (faulty (of_bay b) written_twice ops n))
+      wrote_added is h = let x = lowest_is (length ws) (same_value ops ws n) in (h.0, h.1, (x.0, x.1, twice_here x.0 x.1))
 
       -- one write more than there may be
       pub wrote_over : 64 ≤ length ws → 64 < tally (length ops) (writes ops b)

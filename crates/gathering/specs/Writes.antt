@@ -1,5 +1,5 @@
 -- The writes of a bay as they are gathered, one operation after another. Assumes nothing.
-use Rattle.std.specs.Prelude.{◌≡◌, ℕ, ◌<◌, ◌≤◌, min, Bool, cond, List, [], ◌∷◌, ◌++◌, map, length, Some, None, Ok, Err, Option, Result, nat_le, nat_lt, slice_index, slice_index_or, slice_set}
+use Rattle.std.specs.Prelude.{◌≡◌, ℕ, ◌<◌, ◌≤◌, min, Bool, cond, List, [], ◌∷◌, ◌++◌, map, length, is_some, Some, None, Ok, Err, Option, Result, nat_le, nat_lt, slice_index, slice_index_or, slice_set}
 use Rattle.orders.specs.Orders.{Operation, at, alike}
 use Rattle.bays.specs.Faults.{Lowest}
 use Rattle.gathering.specs.Spans.{Span}
@@ -32,8 +32,15 @@ module _ (ops : List Operation) where
   same_value ws place rank = alike (at ops (slice_index (places ws) rank)) (at ops place)
 
   -- a write of the bay is the last now; or there are 64, and nothing changed
-  abbrev pub WriteAdded : List Span → ℕ → List Span → Result (Unit {0}) TooManyWrites → Type 0
-  WriteAdded was place is (Ok done) = (length was < 64) × (is ≡ was ++ (unread ops place ∷ []))
+  abbrev pub WriteLast : List Span → ℕ → List Span → Result (Unit {0}) TooManyWrites → Type 0
+  WriteLast was place is (Ok done) = (length was < 64) × (is ≡ was ++ (unread ops place ∷ []))
+  WriteLast was place is (Err e) = (64 ≤ length was) × (is ≡ was)
+
+  -- a write of the bay is the last now, and it is told whether an earlier one has its value; or there are 64, and nothing changed
+  abbrev pub WriteAdded : List Span → ℕ → List Span → Result Bool TooManyWrites → Type 0
+  WriteAdded was place is (Ok twice) =
+      (length was < 64) × (is ≡ was ++ (unread ops place ∷ []))
+      × ((rank : Option ℕ) × Lowest (length was) (same_value was place) rank × (twice ≡ is_some rank))
   WriteAdded was place is (Err e) = (64 ≤ length was) × (is ≡ was)
 
   -- the first write of a read's value is as the read leaves it now, and it is told whether the read is before it; or there is none

@@ -1,6 +1,6 @@
 // The writes of a bay, one operation after another.
-ghost use Rattle.std.specs.Prelude.{◌≡◌, ℕ, ◌<◌, false, length, OnOk};
-ghost use Rattle.orders.specs.Orders.{at, of_bay};
+ghost use Rattle.std.specs.Prelude.{◌≡◌, ℕ, ◌<◌, true, false, Ok, length, OnOk};
+ghost use Rattle.orders.specs.Orders.{at, of_bay, writes as write_at};
 ghost use Rattle.bays.specs.Faults.{Lowest, faulty, written_twice};
 ghost use Rattle.lists.specs.Lists.{listed};
 ghost use Rattle.relations.specs.Meanings.{meant, told};
@@ -8,7 +8,7 @@ ghost use Rattle.operations.specs.Rows.{without_value};
 ghost use Rattle.gathering.specs.Kept.{later_read, shortened_by, AllKept};
 ghost use Rattle.gathering.specs.Spans.{started, span, spans};
 ghost use Rattle.gathering.specs.Gathering.{Wrote};
-ghost use Rattle.gathering.specs.Writes.{same_value, later, read_by, PlacesBelow, WriteAdded, ReadAdded};
+ghost use Rattle.gathering.specs.Writes.{same_value, later, read_by, PlacesBelow, WriteLast, WriteAdded, ReadAdded};
 
 use crate::faults::TooManyWrites;
 use crate::write::{MOST_WRITES, Write};
@@ -74,14 +74,17 @@ pub(crate) fn first_twice<V: Kind>(rows: &[Row<V>], writes: &[Write]) -> Option<
     twice
 }
 
-// Adds the write at a place.
+// Adds the write at a place. The clause `twice` says whether an earlier one has its value, which is looked for once all are there.
 pub(crate) fn add_write<V: Kind>(
     rows: &[Row<V>],
     writes: &mut ArrayList<Write, MOST_WRITES>,
     place: usize,
 ) -> Result<(), TooManyWrites>
     requires { place < length rows.now }
-    ensures added { WriteAdded (told V.Kind.meaning rows.now) (spans (listed writes.old)) place (spans (listed writes.new)) result }
+    ensures added { WriteLast (told V.Kind.meaning rows.now) (spans (listed writes.old)) place (spans (listed writes.new)) result }
+    ensures twice { (b : ℕ) → Wrote (told V.Kind.meaning rows.now) b place (spans (listed writes.old)) → write_at (told V.Kind.meaning rows.now) b place ≡ true →
+        OnOk result (WriteAdded (told V.Kind.meaning rows.now) (spans (listed writes.old)) place (spans (listed writes.new))
+        (Ok (faulty (of_bay b) written_twice (told V.Kind.meaning rows.now) place))) }
     ensures kept { OnOk result (AllKept V.Kind.meaning rows.now (listed writes.old) → AllKept V.Kind.meaning rows.now (listed writes.new)) }
 {
     let write = Write {
