@@ -1,14 +1,13 @@
 -- What stands at a rank among rows. Assumes nothing.
-use Rattle.std.proofs.Common.{◌≡◌, ℕ, ◌<◌, List, [], ◌∷◌, ◌++◌, length, get_or, None, sym, ap, ◌∙◌, subst, ap₂, arith}
-use Rattle.std.proofs.lemmas.List.{get_or-map, length-map, map_push}
+use Rattle.std.proofs.Common.{◌≡◌, ℕ, ◌<◌, List, length, get_or, sym, ap, ◌∙◌, subst, ap₂, arith}
+use Rattle.std.proofs.lemmas.List.{get_or-map, length-map}
 use Rattle.operations.specs.declared.row.Row.{Row}
-use Rattle.operations.specs.Rows.{without_value}
 use Rattle.orders.specs.Orders.{at, alike}
 use Rattle.relations.specs.Meanings.{meant, told}
 use Rattle.relations.proofs.Told.{told_at}
 use Rattle.gathering.specs.Spans.{Span, span, spans}
 use Rattle.gathering.specs.declared.write.Write.{Write}
-use Rattle.gathering.specs.Writes.{places, unread, same_value, PlacesBelow}
+use Rattle.gathering.specs.Writes.{places, same_value, PlacesBelow}
 
 module _ {V : Type 0} (m : V → ℕ × ℕ) (rows : List (Row V)) (ws : List Span) (below : PlacesBelow (length rows) ws) (i : ℕ) (d : Span) (h : i < length ws) where
   -- it has a row,
@@ -39,9 +38,3 @@ module _ {V : Type 0} (m : V → ℕ × ℕ) (rows : List (Row V)) (ws : List Wr
   -- and what its test of the value of the operation at a place says
   pub like_write : (place : ℕ) → same_value (told m rows) (spans ws) place i ≡ alike (at (told m rows) (get_or ws i d).place) (at (told m rows) place)
   like_write place = ap (λ p. alike (at (told m rows) p) (at (told m rows) place)) place_at
-
--- a write more, as judging sees it
-pub spans_push : {V : Type 0} (m : V → ℕ × ℕ) (rows : List (Row V)) (ws : List Write) (place : ℕ) (row : Row V) → place < length rows → row ≡ get_or rows place row → spans (ws ++ (record { place = place; row = without_value row; last_read = None } ∷ [])) ≡ spans ws ++ (unread (told m rows) place ∷ [])
-spans_push m rows ws place row h is =
-    map_push span ws (record { place = place; row = without_value row; last_read = None })
-    ∙ ap (λ o. spans ws ++ (record { place = place; start = o.start; finish = o.finish; last_read = None } ∷ [])) (sym (told_at m rows place row h is))
